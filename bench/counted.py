@@ -1,15 +1,15 @@
 """Scripts whose instructions are counted, and their counting by valgrind: so the machine may have
 other things to do. BITEMPORAL=FILE counts those of another program."""
-import os
-import pathlib
 import random
 import re
 import subprocess
 import sys
 from datetime import date, timedelta
 
-ROOT = pathlib.Path(__file__).resolve().parent.parent
-PROGRAM = os.environ.get('BITEMPORAL', ROOT / 'crates/bitemporal_cli/out/bitemporal_cli')
+import folders  # noqa: F401
+from bitemporal_tools.program import PROVED, named_or
+
+PROGRAM = named_or(PROVED)
 FIRST = date(2000, 1, 1)
 LATER = "AT TIMESTAMP '2024-01-01 00:00:00';\n"
 
@@ -42,7 +42,8 @@ def scattered(count):
 
 
 def counted_run(program, words, file, **streams):
-    """A run of the program under valgrind, which writes the file, and how many instructions it needed."""
+    """A run of the program under valgrind, which writes the file, and how many instructions it
+    needed."""
     ran = subprocess.run(
         ['valgrind', '--tool=callgrind', f'--callgrind-out-file={file}', program, *words],
         stderr=subprocess.PIPE, text=True, check=False, **streams)

@@ -219,7 +219,7 @@ class Scope:
             yield 27
 
     def kind(self, operand):
-        """The type of a name or a literal, where there is one."""
+        """The type of a name or a literal, if there is one."""
         if not isinstance(operand, Name):
             return KIND_OF[type(operand)]
         found = self.found(operand)
@@ -252,7 +252,7 @@ class Scope:
             yield 41
 
     def value(self, operand, rows):
-        """What a name or a literal is, where each table has one row."""
+        """What a name or a literal is, if each table has one row."""
         if not isinstance(operand, Name):
             return operand
         [place] = self.found(operand)
@@ -355,7 +355,7 @@ class Model:
         period_columns = [name for _, *both in application + system for name in both]
         lists = [element.columns for element in keys + references]
         own_columns = [name for own in lists for name in own]
-        # The references to tables that are there, each with its table. Any other is 23.
+        # The references to tables that exist, each with its table. Any other is 23.
         parents = [(reference, self.tables[reference.table])
                    for reference in references if reference.table in self.tables]
         if any(number > GREATEST_NUMBER for _, number in numbers):

@@ -1,18 +1,35 @@
-"""The random scripts of fuzz/random_runs as texts, for the tests of tools."""
+"""The random scripts of the two models as texts, by the numbers of their seeds."""
 import random
+from collections.abc import Collection, Iterator
 
-from loaded import loaded
+import random_checks
+import random_runs
 
 FORMS = ('changes', 'keys', 'queries', 'stored')
 
 
-def scripts(first, count, forms=FORMS, without=()):
-    """Pairs of a seed and a script, for so many seeds from the first on. Every second script is
-    written in odd ways. The texts in `without` are in none."""
-    runs = loaded('random_runs')
+def check_script(seed: int) -> bytes:
+    """The script of random_checks with this number."""
+    return bytes(random_checks.Author(seed).script())
+
+
+def run_script(seed: int) -> bytes:
+    """The script of random_runs with this seed, with all forms."""
+    return text_of(seed, random_runs.RUNS.split(',')).encode()
+
+
+def text_of(seed: int, forms: Collection[str]) -> str:
+    """A script of random_runs with these forms; every second one is written in odd ways."""
+    statements = random_runs.Generator(random.Random(seed), set(forms)).script()
+    writer = random_runs.Writer(random.Random(str(seed)) if seed % 2 else None)
+    return str(writer.script([writer.statement(statement) for statement in statements]))
+
+
+def scripts(first: int, count: int, forms: Collection[str] = FORMS,
+            without: Collection[str] = ()) -> Iterator[tuple[int, str]]:
+    """Pairs of a seed and a script of random_runs, for so many seeds from the first on. The texts
+    in `without` are in none."""
     for text in without:
-        runs.TEXTS.remove(text)
+        random_runs.TEXTS.remove(text)
     for seed in range(first, first + count):
-        statements = runs.Generator(random.Random(seed), set(forms)).script()
-        writer = runs.Writer(random.Random(str(seed)) if seed % 2 else None)
-        yield seed, writer.script([writer.statement(statement) for statement in statements])
+        yield seed, text_of(seed, forms)

@@ -1,5 +1,5 @@
-"""Many scripts in one run of the program, which is built without a proof in a copy outside the
-repository, as it is or with edits.
+"""Many audited scripts in one run of the program, which is built without a proof in a copy outside
+the repository, as it is or with edits.
 
 It is `rt try` that builds it, with the checks of the address sanitizer. It keeps no executable, and
 takes seconds for each run, so tests/laid_main.rs runs all scripts. A build takes some two minutes.
@@ -7,23 +7,22 @@ takes seconds for each run, so tests/laid_main.rs runs all scripts. A build take
 import pathlib
 import re
 import subprocess
-import sys
 import tempfile
+from collections.abc import Mapping, Sequence
 
-ROOT = pathlib.Path(__file__).resolve().parent.parent
-sys.path.append(str(ROOT / 'tools'))
-from builds.sums import lay_copy  # noqa: E402
+from folders import ROOT
+from builds.sums import lay_copy
 
 MAIN = ROOT / 'tests/laid_main.rs'
-USES = ['script_engine', 'sqlite']
 CRATE = 'crates/bitemporal_cli'
+Edits = Mapping[str, Sequence[tuple[str, str]]]
 AT_ONCE = 20  # scripts in a run: `rt try` takes no more than 1 MiB of their reports
 
 
-def lay(copy, edits):
+def lay(copy: pathlib.Path, edits: Edits) -> None:
     """Copies what a build reads, and not what earlier builds made, and makes the edits: files, each
-    with pairs of an old text, which has to stand there just once, and a new one."""
-    lay_copy(copy, MAIN, USES)
+    with pairs of an old text, which has to be there just once, and a new one."""
+    lay_copy(copy, MAIN)
     for name, pairs in edits.items():
         text = (copy / name).read_text(encoding='utf-8')
         for old, new in pairs:
@@ -33,9 +32,8 @@ def lay(copy, edits):
         (copy / name).write_text(text, encoding='utf-8')
 
 
-def run(scripts, edits):
-    """The status and the report of each script, which are run in their order. A script stands with
-    the whole name of the file of its store, or with None: then it is run with --audit."""
+def run(scripts: Sequence[str], edits: Edits) -> list[tuple[int, bytes]]:
+    """The status and the report of each script."""
     with tempfile.TemporaryDirectory() as name:
         copy, cases = pathlib.Path(name, 'copy'), pathlib.Path(name, 'cases')
         copy.mkdir()
@@ -43,8 +41,7 @@ def run(scripts, edits):
         lay(copy, edits)
         for start in range(0, len(scripts), AT_ONCE):
             (cases / f'from{start:05}').write_bytes(b''.join(
-                str(file or '').encode() + b'\xff' + script.encode() + b'\xff'
-                for file, script in scripts[start:start + AT_ONCE]))
+                script.encode() + b'\xff' for script in scripts[start:start + AT_ONCE]))
         tried = subprocess.run(
             ['rt', 'try', '--steps', '1', '--seconds', '900', '--cases', cases],
             cwd=copy / CRATE, stdin=subprocess.DEVNULL, capture_output=True, check=False)

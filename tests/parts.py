@@ -2,9 +2,11 @@
 that some of what they try needs."""
 import dataclasses
 import glob
+import os
 import shutil
 import subprocess
 from collections.abc import Callable
+from typing import Any
 
 DEBIAN_PYTHON = '/usr/bin/python3'
 
@@ -27,11 +29,18 @@ def has_postgresql() -> bool:
     return bool(servers or shutil.which('initdb')) and shutil.which('psql') is not None
 
 
-def has_dask() -> bool:
-    """Whether Debian's Python, which over_days_test runs it by, has it."""
-    return shutil.which(DEBIAN_PYTHON) is not None and subprocess.run(
-        [DEBIAN_PYTHON, '-c', 'import distributed'], capture_output=True,
+def debian_has(modules: str) -> Callable[[], bool]:
+    """Whether Debian's Python has these modules."""
+    return lambda: shutil.which(DEBIAN_PYTHON) is not None and subprocess.run(
+        [DEBIAN_PYTHON, '-c', f'import {modules}'], capture_output=True,
         check=False).returncode == 0
+
+
+def has_clients() -> bool:
+    """Whether those that test_clients runs are there."""
+    return debian_has('psycopg2, psycopg, asyncpg, sqlalchemy, pandas')() \
+        and shutil.which('javac') is not None \
+        and os.path.exists('/usr/share/java/postgresql.jar')
 
 
 COMPILER = Package('a C compiler', on_path('cc'), 'apt-get install gcc libc6-dev')
@@ -43,7 +52,15 @@ MANDOC = Package('mandoc', on_path('mandoc'), 'apt-get install mandoc')
 ZSH = Package('zsh', on_path('zsh'), 'apt-get install zsh')
 DPKG = Package('dpkg-deb', on_path('dpkg-deb'), 'apt-get install dpkg')
 LINTIAN = Package('lintian', on_path('lintian'), 'apt-get install lintian')
-DASK = Package('Dask', has_dask, 'apt-get install python3-distributed')
+MYPY = Package('mypy', on_path('mypy'), 'apt-get install mypy')
+FLAKE8 = Package('flake8', on_path('flake8'), 'apt-get install flake8')
+WHEEL = Package('wheel', debian_has('setuptools, wheel'), 'apt-get install python3-wheel')
+DASK = Package('Dask', debian_has('distributed'), 'apt-get install python3-distributed')
+PSQL = Package('psql', on_path('psql'), 'apt-get install postgresql-client')
+OPENSSL = Package('openssl', on_path('openssl'), 'apt-get install openssl')
+CLIENTS = Package('clients of PostgreSQL', has_clients,
+                  'apt-get install python3-psycopg2 python3-psycopg python3-asyncpg'
+                  ' python3-sqlalchemy python3-pandas libpostgresql-jdbc-java default-jdk-headless')
 
 
 @dataclasses.dataclass(frozen=True)
@@ -60,7 +77,7 @@ class Part:
 
 
 # A program that `rt try` builds, which some tests run over their own main.
-BUILDS = {'gigabytes': 6, 'is_quick': False}
+BUILDS: dict[str, Any] = {'gigabytes': 6, 'is_quick': False}
 
 PARTS = [
     # The sources and the pages, as texts.
@@ -71,41 +88,62 @@ PARTS = [
     Part('tests/run', 4),
     Part('tests/limits', 4),
     Part('tests/bytes', 2),
-    Part('tests/large', 20),
+    Part('tests/large', 2),
     Part('tests/commands', 4, needs=(COMPILER,)),
     Part('tests/untrusted', 2),
     Part('tests/examples', 5),
-    Part('tests/pages', 20, needs=(POSTGRESQL,)),
+    Part('tests/pages', 28, needs=(POSTGRESQL,)),
     # The launcher, and the quick build beside the proved one.
-    Part('tests/builds', 600, **BUILDS),
+    Part('tests/builds stamps first', 300, **BUILDS),
+    Part('tests/builds bugs', 250, **BUILDS),
     # What is installed, and the packages.
-    Part('tests/installed', 15, needs=(MANDOC, ZSH, DPKG, LINTIAN)),
+    Part('tests/installed', 25, needs=(MANDOC, ZSH, DPKG, LINTIAN)),
     # Stores in files, and memory, disks and writers that fail.
-    Part('tests/stores', 300, **BUILDS),
-    Part('tests/store_program', 30),
-    Part('tests/failures', 500, processors=2, needs=(COMPILER,), **BUILDS),
+    Part('tests/stores', 3),
+    Part('tests/store_program', 15),
+    Part('tests/failures', 650, processors=2, needs=(COMPILER,), **BUILDS),
     # The public calls of the libraries, and a program that embeds the engine.
-    Part('tests/libraries', 300, **BUILDS),
-    Part('tests/embedding', 250, **BUILDS),
+    Part('tests/libraries', 180, **BUILDS),
+    Part('tests/embedding', 150, **BUILDS),
     # The tools.
-    Part('tools/explain_test', 20),
-    Part('tools/mends_test', 20),
-    Part('tools/run_test', 5),
-    Part('tools/session_test', 5),
-    Part('tools/profile_sql_test', 20),
-    Part('tools/load_test', 20),
-    Part('tools/answers_test', 5),
-    Part('tools/timeline_test', 10, needs=(CHROMIUM,)),
-    Part('tools/versions_test', 10, needs=(SQLITE, POSTGRESQL)),
-    Part('tools/postgresql_test', 30, needs=(POSTGRESQL,)),
-    Part('tools/distribute_test', 30, needs=(POSTGRESQL,)),
-    Part('tools/over_days_test', 30, needs=(DASK,)),
+    Part('python/tests/test_package.py', 60, needs=(MYPY, FLAKE8, WHEEL)),
+    Part('python/tests/test_explain.py', 5),
+    Part('python/tests/test_mends.py', 10),
+    Part('python/tests/test_run.py', 5),
+    Part('python/tests/test_session.py', 5),
+    Part('python/tests/test_sql.py', 45),
+    Part('python/tests/test_load.py', 13),
+    Part('python/tests/test_load_store.py', 40),
+    Part('python/tests/test_handovers.py', 5),
+    Part('python/tests/test_answers.py', 10),
+    Part('python/tests/test_totals.py', 5, needs=(POSTGRESQL,)),
+    Part('python/tests/test_durations.py', 2),
+    Part('python/tests/test_ever.py', 2),
+    Part('python/tests/test_questions.py', 26),
+    Part('python/tests/test_timeline.py', 10, needs=(CHROMIUM,)),
+    Part('python/tests/test_dump.py', 13),
+    Part('python/tests/test_alter.py', 36),
+    Part('python/tests/test_disks.py', 30),
+    Part('python/tests/test_history.py', 6),
+    Part('python/tests/test_forms.py', 2),
+    Part('python/tests/test_versions.py', 6, needs=(SQLITE, POSTGRESQL)),
+    Part('python/tests/test_postgresql.py', 26, needs=(POSTGRESQL,)),
+    Part('python/tests/test_distribute.py', 6, needs=(POSTGRESQL,)),
+    Part('python/tests/test_over_days.py', 50, needs=(DASK,)),
+    # The server of PostgreSQL's protocol, its page, and the connection from Python.
+    Part('python/tests/test_server.py', 45, needs=(PSQL, OPENSSL)),
+    Part('python/tests/test_bi.py', 10, needs=(POSTGRESQL,)),
+    Part('python/tests/test_clients.py', 15, needs=(CLIENTS,)),
+    Part('python/tests/test_page.py', 10, needs=(CHROMIUM,)),
+    Part('python/tests/test_dbapi.py', 3),
+    Part('fuzz/random_clients.py --seconds 20', 20),
     # Each allocation of a run refused in turn, and several; more scripts without --short.
-    Part('fuzz/refuse_allocations --short', 150, processors=4, needs=(COMPILER,), is_quick=False),
+    Part('fuzz/refuse_allocations --short', 45, processors=2, needs=(COMPILER,), is_quick=False),
     # Random scripts, the same each time, against the models.
-    Part('fuzz/model_reports', 10),
-    Part('fuzz/random_checks --seed 1 --count 500', 30),
-    Part('fuzz/random_runs --seed 1 --count 1000', 60),
-    Part('fuzz/random_runs --seed 5001 --count 1000 --audit', 60),
-    Part('fuzz/random_stores --seed 1 --count 200', 30),
+    Part('fuzz/model_reports', 1),
+    Part('fuzz/random_checks.py --seed 1 --count 500', 9),
+    Part('fuzz/random_runs.py --seed 1 --count 1000', 11),
+    Part('fuzz/random_runs.py --seed 5001 --count 1000 --audit', 13),
+    Part('fuzz/random_stores --seed 1 --count 200', 11),
+    Part('fuzz/random_sessions --seed 1 --count 30', 15),
 ]

@@ -3,7 +3,9 @@
 It is SQL with names for three moments, as the store's form counts them: {first}, {clock} and
 {forever}.
 """
-from store_files import FIRST, LAST, MICROSECONDS, SECONDS, bytes_of, number
+from collections.abc import Sequence
+
+from store_files import FIRST, LAST, MICROSECONDS, SECONDS, Day, Value, bytes_of, number
 
 # Three tables, and their definitions as the profile spells them. WRK refers to EMP.
 CREATE = """CREATE TABLE EMP (ENO INTEGER, DEPT INTEGER, S DATE, E DATE,
@@ -21,8 +23,8 @@ CREATE TABLE NOTE (T VARCHAR(9), D DATE, S DATE, E DATE,
  PRIMARY KEY (D, T, NP WITHOUT OVERLAPS)) WITH SYSTEM VERSIONING;
 """
 EMP, WRK, NOTE = 1, 2, 3
-DAYS = ['S', 3, 0, 'E', 3, 0]
-DEFINITIONS = [
+DAYS: list[Value] = ['S', 3, 0, 'E', 3, 0]
+DEFINITIONS: list[list[Value]] = [
     ['EMP', 6, 'ENO', 1, 0, 'DEPT', 1, 0, *DAYS, 'SS', 4, 12, 'SE', 5, 12, 'EP', 2, 3, 1, 0, 0],
     ['WRK', 6, 'WNO', 1, 0, 'ENO', 1, 0, *DAYS, 'SS', 4, -1, 'SE', 5, -1, 'WP', 2, 3, 1, 0,
      1, EMP, 1, 1, 0],
@@ -30,18 +32,19 @@ DEFINITIONS = [
 ]
 
 
-def row(table, values, start, end, since='{clock}', until='{forever}'):
+def row(table: int, values: Sequence[Value], start: Day, end: Day, since: str = '{clock}',
+        until: str = '{forever}') -> str:
     """SQL that adds a version."""
     return (f"INSERT INTO bt_version VALUES ({table}, x'{bytes_of(values).hex()}', {number(start)},"
             f' {number(end)}, {since}, {until});')
 
 
-def define(place, values):
+def define(place: int, values: Sequence[Value]) -> str:
     """SQL that adds a definition, or puts it in the place of another."""
     return f"INSERT OR REPLACE INTO bt_table VALUES ({place}, x'{bytes_of(values).hex()}');"
 
 
-def with_tables(count):
+def with_tables(count: int) -> str:
     """SQL that adds tables until `count` are there."""
     return ''.join(define(place, [f'T{place}', *DEFINITIONS[0][1:]])
                    for place in range(4, count + 1))

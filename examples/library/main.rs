@@ -1,6 +1,6 @@
 //! `run_over_file STORE < SCRIPT`: runs a script over a store in a file, which stays, and prints
 //! the records of each statement as soon as its change is in the file. It ends at the first that is
-//! refused. The status is 0, 1 where a statement was refused, and 2 where the script or the store
+//! refused. The status is 0, 1 if a statement was refused, and 2 if the script or the store
 //! was, or a file, the report or memory failed.
 #![tactic(auto)]
 
@@ -66,7 +66,7 @@ fn run_in(rt: &HostRuntime, store: &str, script: &[u8]) -> u8 {
         out: rt.stdout(),
         status: 0,
     };
-    let ran = run_over(rt.alloc(), &mut engine, script, &mut reporting);
+    let ran = run_over(rt.alloc(), &mut engine, rt, script, &mut reporting);
     // The engine gives its connection back, and the connection puts all into the file.
     let closed = engine.close().close();
     match ran {

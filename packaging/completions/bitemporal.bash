@@ -1,4 +1,4 @@
-# Completions of bitemporal and bitemporal_file for bash.
+# Completions of bitemporal, bitemporal_file and the tools for bash.
 
 # The words that begin as what is written; where that is no option, files of an ending too, or all:
 # WORDS [ENDING]
@@ -27,16 +27,26 @@ _bitemporal() {
 
 # The first file is the store.
 _bitemporal_file() {
-    local place names=0
+    local options='--audit --stop --now --tables --verify --read-only --backup --wait' place names=0
+    if [[ ${COMP_WORDS[COMP_CWORD-1]} == --backup ]]; then
+        _bitemporal_complete '' ''
+        return
+    fi
     for ((place = 1; place < COMP_CWORD; place++)); do
         [[ ${COMP_WORDS[place]} == -* ]] || names=$((names + 1))
     done
     if ((names)); then
-        _bitemporal_complete '--audit --stop --tables --help' '.sql'
+        _bitemporal_complete "$options --help" '.sql'
     else
-        _bitemporal_complete '--audit --stop --tables --help --version' ''
+        _bitemporal_complete "$options --help --version" ''
     fi
+}
+
+# A tool takes files, and the options that its help names.
+_bitemporal_tool() {
+    _bitemporal_complete "$("$1" --help 2> /dev/null | grep -oE -e '--[a-z][a-z-]*' | sort -u)" ''
 }
 
 complete -F _bitemporal bitemporal
 complete -F _bitemporal_file bitemporal_file
+complete -F _bitemporal_tool @tools@

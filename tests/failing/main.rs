@@ -9,6 +9,7 @@
 //! `--keep-program FILE` the program copies itself.
 #![tactic(auto)]
 
+mod copies;
 mod disks;
 mod fixtures;
 mod memory;
@@ -29,6 +30,7 @@ fn run(rt: &HostRuntime, part: &str, file: &str, script: &str) -> Result<(), Fai
         "statements" => memory::statements(rt, script),
         "again" => memory::again(rt, script),
         "opens" => memory::opens(rt, script),
+        "copies" => copies::copies(rt, script),
         "new_store" => memory::new_store(rt),
         "audits" => memory::audits(rt, script),
         "queries" => memory::queries(rt),

@@ -4,7 +4,8 @@
 
 use crate::fixtures::{EMP, catalog_of, moment, rows, statement};
 use crate::opened::{InMemory, Script, Shown, new_engine, opened, plain_report, report_of};
-use catalog_core::{Catalog, Query, Tables, resolve_query};
+use catalog_core::{Catalog, Query, Tables};
+use statement_resolution::resolve_query;
 use coalesce_core::witnesses;
 use memory_store::{MemoryStore, open_in_memory};
 use period_core::{Answer, Items, PeriodRow, Refusal};

@@ -21,7 +21,7 @@ INSERT INTO WRK VALUES (1, 22217, DATE '2010-01-01', DATE '2010-02-01');
 AT TIMESTAMP '2024-01-02 00:00:00'"""
 CHANGE = """UPDATE EMP FOR PORTION OF EP FROM DATE '2011-02-03' TO DATE '2011-09-10' SET DEPT = 4;
 SELECT * FROM EMP"""
-# One row is updated, and three current versions are there then.
+# One row is updated, and three current versions exist then.
 CHANGED = re.compile(rb'opened\ndone,1,update,1\nversions,2,6,3\n')
 
 # What sqlite3 does to the store, each with how it has to end: it is opened and changed; it, or the
@@ -92,7 +92,7 @@ ODD = [
 ]
 
 
-# Files beside the store, as other programs may have left them.
+# Files next to the store, as other programs may have left them.
 BESIDE = [('-journal', b''), ('-journal', b'no journal' * 99), ('-wal', b''),
           ('-wal', b'no log' * 99), ('-wal', bytes(4096))]
 # The bytes of a page that are changed in turn.
@@ -134,7 +134,7 @@ def is_sound(file):
 
 
 def hot_journal(file):
-    """Leaves the file, and a journal beside it, as a process leaves them that ends within a
+    """Leaves the file, and a journal next to it, as a process leaves them that ends within a
     transaction. Gives them as they are."""
     connection = sqlite3.connect(file, isolation_level=None)
     connection.executescript(
@@ -159,7 +159,7 @@ class Trial:
         self.head = 'not run'
 
     def files(self):
-        """The bytes of the store and of what was left beside it."""
+        """The bytes of the store and of what was left next to it."""
         return [file.read_bytes() for file in (self.file, self.beside) if file]
 
     def run(self, program, env):

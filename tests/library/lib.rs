@@ -34,10 +34,14 @@
 //! - `len`, `find`, `def` of `Catalog`: `tables::numbers_of_tables`
 //! - `encode_def`, `decode_def`: `definitions::both_ways`, `definitions::bytes_of_no_definition`,
 //!   `definitions::cut_bytes`
+//! - `fits`: `queries::tables_of_a_query`
+//! - `holds`: `queries::conditions`
+//! - `meets`: `queries::stored_query_in_a_window`
+//!
+//! statement_resolution
 //! - `resolve_change`: `plans::plans_of_each_form`
-//! - `resolve_query`: `queries::first_answer`, `queries::changed_departments`; `fits`:
-//!   `queries::tables_of_a_query`
-//! - `resolve_stored`, `meets`: `queries::stored_query_in_a_window`; `holds`: `queries::conditions`
+//! - `resolve_query`: `queries::first_answer`, `queries::changed_departments`
+//! - `resolve_stored`: `queries::stored_query_in_a_window`
 //!
 //! portion_dml
 //! - `plan_insert`, `plan_update`, `plan_delete`: `plans::plans_of_each_form`

@@ -5,7 +5,8 @@ use crate::fixtures::{
     DEP, EMP, FOREVER, Held, Recorded, WRK, are_rows, catalog_of, day, defined, rows, statement,
     versions,
 };
-use catalog_core::{Action, Catalog, Change, Plan, TableDef, resolve_change};
+use catalog_core::{Action, Catalog, Change, Plan, TableDef};
+use statement_resolution::resolve_change;
 use period_core::{Day, PeriodRow, Refusal, VersionRow};
 use period_keys::{key_clash, uncovered};
 use portion_dml::{after, plan_delete, plan_insert, plan_update};

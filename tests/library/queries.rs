@@ -4,10 +4,8 @@
 use crate::fixtures::{
     EMP, FOREVER, Held, Recorded, are_rows, catalog_of, integers, row, rows, statement, versions,
 };
-use catalog_core::{
-    Catalog, Comparand, CompareValues, Query, Stored, Tables, fits, holds, meets, resolve_query,
-    resolve_stored,
-};
+use catalog_core::{Catalog, Comparand, CompareValues, Query, Stored, Tables, fits, holds, meets};
+use statement_resolution::{resolve_query, resolve_stored};
 use coalesce_core::coalesce;
 use period_core::{Items, PeriodRow, Refusal, Value};
 use sequenced_ops::run_query;

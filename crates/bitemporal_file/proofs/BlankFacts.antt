@@ -13,8 +13,8 @@ use Rattle.sql_statements.specs.Lexis as lexis
 use Rattle.sql_statements.specs.Lexis.{◌∈◌, TokensFrom, byte_order_mark, byte_order_mark_size, begins_pair, begins_with, first_lexeme, is_blank, is_digit, is_letter, is_symbol_byte, line_feed, quote, text_of_size}
 use Rattle.sql_statements.specs.declared.token.TokenKind.TheVariants.{Word, Number, Symbol}
 use Rattle.bitemporal_file.specs.declared.parts.Place.{Place}
-use Rattle.bitemporal_file.specs.declared.parts.Place.TheVariants.{Outside, BehindDash, InComment, InText, Ended}
-use Rattle.bitemporal_file.specs.Parts.{HasNoToken, is_blank_at, place_after, place_behind}
+use Rattle.bitemporal_file.specs.declared.parts.Place.TheVariants.{Outside, AfterDash, InComment, InText, Ended}
+use Rattle.bitemporal_file.specs.Parts.{HasNoToken, is_blank_at, place_after, place_after_all}
 
 -- each byte is blank at its place
 abbrev pub are_blank_from : Place → List ℕ → Bool
@@ -24,7 +24,7 @@ are_blank_from place (byte ∷ bytes) = is_blank_at place byte && are_blank_from
 -- no dash is left alone at the end
 abbrev pub is_rest : Place → Bool
 is_rest Outside = true
-is_rest BehindDash = false
+is_rest AfterDash = false
 is_rest InComment = true
 is_rest InText = true
 is_rest Ended = true
@@ -38,11 +38,11 @@ and_assoc : (x y z : Bool) → (x && (y && z)) ≡ ((x && y) && z)
 and_assoc true y z = refl
 and_assoc false y z = refl
 
-all_blank-parts : (place : Place) (bytes : List ℕ) → is_all_blank place bytes ≡ (are_blank_from place bytes && is_rest (place_behind place bytes))
+all_blank-parts : (place : Place) (bytes : List ℕ) → is_all_blank place bytes ≡ (are_blank_from place bytes && is_rest (place_after_all place bytes))
 all_blank-parts place [] = refl
 all_blank-parts place (byte ∷ bytes) =
     ap (λ b. is_blank_at place byte && b) (all_blank-parts (place_after place byte) bytes)
-    ∙ and_assoc (is_blank_at place byte) (are_blank_from (place_after place byte) bytes) (is_rest (place_behind (place_after place byte) bytes))
+    ∙ and_assoc (is_blank_at place byte) (are_blank_from (place_after place byte) bytes) (is_rest (place_after_all (place_after place byte) bytes))
 
 -- a comment goes to the end of its line
 comment-ends : (bytes : List ℕ) → is_all_blank InComment bytes ≡ is_all_blank Outside (drop (length (take_through line_feed bytes)) bytes)
@@ -52,7 +52,7 @@ comment-ends (byte ∷ bytes) = elim (cases_Bool (byte == line_feed)) [
   | inr is ↦ rw is (comment-ends bytes)
 ]
 
--- what else comes first
+-- another lexeme is first
 not-blank : (word digit text pair symbol : Bool) (w d n : ℕ) (size : Option ℕ) →
     (if word then front.Lexeme Word w else if digit then front.Lexeme Number d else if text then text_of_size size else if pair then front.Lexeme Symbol 2 else if symbol then front.Lexeme Symbol 1 else front.Bad) ≡ front.Blank n → ⊥
 not-blank true digit text pair symbol w d n size is = cc
@@ -98,7 +98,7 @@ first-comment more n is =
     let line : suc (suc (length (take_through line_feed more))) ≡ n = omega (arith, size) in
     subst (λ m. is_all_blank Outside (45 ∷ 45 ∷ more) ≡ is_all_blank Outside (drop m (45 ∷ 45 ∷ more))) line (comment-ends more)
 
--- what is blank comes first
+-- a blank is first
 first-blank : (bytes : List ℕ) (n : ℕ) → first_lexeme bytes ≡ front.Blank n → is_all_blank Outside bytes ≡ is_all_blank Outside (drop n bytes)
 unfolding first_lexeme
 first-blank [] n is = let no : ⊥ = cc in absurd no
@@ -152,14 +152,14 @@ mutual
         | inr space ↦
             let dash : (byte == 45) ≡ true = rw space at here in
             let is : byte ≡ 45 = eqb-true byte 45 dash in
-            let behind : is_all_blank BehindDash rest ≡ true = rw is at after in
+            let behind : is_all_blank AfterDash rest ≡ true = rw is at after in
             rw is (dash-no_token at rest behind)
       ]
 
-  dash-no_token : (at : ℕ) (rest : List ℕ) → is_all_blank BehindDash rest ≡ true → TokensFrom at (45 ∷ rest) []
+  dash-no_token : (at : ℕ) (rest : List ℕ) → is_all_blank AfterDash rest ≡ true → TokensFrom at (45 ∷ rest) []
   dash-no_token at [] blank = let no : ⊥ = cc in absurd no
   dash-no_token at (next ∷ more) blank =
-      let (here, after) = and_parts (next ∈ "-") (is_all_blank (place_after BehindDash next) more) blank in
+      let (here, after) = and_parts (next ∈ "-") (is_all_blank (place_after AfterDash next) more) blank in
       let is : next ≡ 45 = eqb-true next 45 here in
       let within : is_all_blank InComment more ≡ true = rw is at after in
       rw is (line-no_token at more (comment-no_token (at + 2) more within))
@@ -193,39 +193,39 @@ unmarked bytes few = rw (false_from_ne_true (starts_with nat_eq bytes byte_order
     too_few is = omega (arith, few, ap length is, length-append byte_order_mark (drop 3 bytes))
 
 -- the mark is no text and no comment
-place-marked : (bytes : List ℕ) → place_behind Outside (drop (byte_order_mark_size bytes) bytes) ≡ place_behind Outside bytes
+place-marked : (bytes : List ℕ) → place_after_all Outside (drop (byte_order_mark_size bytes) bytes) ≡ place_after_all Outside bytes
 place-marked bytes = elim (cases_Bool (starts_with nat_eq bytes byte_order_mark)) [
   | inl is ↦
       let begins : bytes ≡ byte_order_mark ++ drop 3 bytes = (starts_is Decides-eqb bytes byte_order_mark (starts_with nat_eq bytes byte_order_mark) refl).0 is in
-      rw is (sym (ap (place_behind Outside) begins))
+      rw is (sym (ap (place_after_all Outside) begins))
   | inr is ↦ rw is refl
 ]
 
 -- at the end
-pub blank-none : (bytes : List ℕ) → is_blank_so_far bytes ≡ true → place_behind Outside bytes ≢ BehindDash → HasNoToken bytes
+pub blank-none : (bytes : List ℕ) → is_blank_so_far bytes ≡ true → place_after_all Outside bytes ≢ AfterDash → HasNoToken bytes
 blank-none bytes blank end =
     let after = drop (byte_order_mark_size bytes) bytes in
-    blank-no_token (byte_order_mark_size bytes) after (all_blank-parts Outside after ∙ and_from (are_blank_from Outside after) (is_rest (place_behind Outside after)) blank (rest-end (place_behind Outside after) (λ is. end (sym (place-marked bytes) ∙ is))))
+    blank-no_token (byte_order_mark_size bytes) after (all_blank-parts Outside after ∙ and_from (are_blank_from Outside after) (is_rest (place_after_all Outside after)) blank (rest-end (place_after_all Outside after) (λ is. end (sym (place-marked bytes) ∙ is))))
   where
-    rest-end : (place : Place) → place ≢ BehindDash → is_rest place ≡ true
+    rest-end : (place : Place) → place ≢ AfterDash → is_rest place ≡ true
     rest-end Outside end = refl
-    rest-end BehindDash end = absurd (end refl)
+    rest-end AfterDash end = absurd (end refl)
     rest-end InComment end = refl
     rest-end InText end = refl
     rest-end Ended end = refl
 
-pub none-blank : (bytes : List ℕ) → HasNoToken bytes → (is_blank_so_far bytes ≡ true) × (place_behind Outside bytes ≢ BehindDash)
+pub none-blank : (bytes : List ℕ) → HasNoToken bytes → (is_blank_so_far bytes ≡ true) × (place_after_all Outside bytes ≢ AfterDash)
 none-blank bytes none =
     let after = drop (byte_order_mark_size bytes) bytes in
-    let all : (are_blank_from Outside after && is_rest (place_behind Outside after)) ≡ true = sym (all_blank-parts Outside after) ∙ no_token-blank none refl in
-    let (blank, rest) = and_parts (are_blank_from Outside after) (is_rest (place_behind Outside after)) all in
-    (blank, λ is. no_rest (place_behind Outside after) rest (place-marked bytes ∙ is))
+    let all : (are_blank_from Outside after && is_rest (place_after_all Outside after)) ≡ true = sym (all_blank-parts Outside after) ∙ no_token-blank none refl in
+    let (blank, rest) = and_parts (are_blank_from Outside after) (is_rest (place_after_all Outside after)) all in
+    (blank, λ is. no_rest (place_after_all Outside after) rest (place-marked bytes ∙ is))
   where
-    no_rest : (place : Place) → is_rest place ≡ true → place ≡ BehindDash → ⊥
-    no_rest place rest is = let no : is_rest BehindDash ≡ true = subst (λ p. is_rest p ≡ true) is rest in cc
+    no_rest : (place : Place) → is_rest place ≡ true → place ≡ AfterDash → ⊥
+    no_rest place rest is = let no : is_rest AfterDash ≡ true = subst (λ p. is_rest p ≡ true) is rest in cc
 
 -- one byte more
-are_blank-more : (place : Place) (bytes : List ℕ) (byte : ℕ) → are_blank_from place (bytes ++ byte ∷ []) ≡ (are_blank_from place bytes && is_blank_at (place_behind place bytes) byte)
+are_blank-more : (place : Place) (bytes : List ℕ) (byte : ℕ) → are_blank_from place (bytes ++ byte ∷ []) ≡ (are_blank_from place bytes && is_blank_at (place_after_all place bytes) byte)
 are_blank-more place [] byte = and_true (is_blank_at place byte)
   where
     and_true : (b : Bool) → (b && true) ≡ (true && b)
@@ -233,23 +233,23 @@ are_blank-more place [] byte = and_true (is_blank_at place byte)
     and_true false = refl
 are_blank-more place (first ∷ bytes) byte =
     ap (λ b. is_blank_at place first && b) (are_blank-more (place_after place first) bytes byte)
-    ∙ and_assoc (is_blank_at place first) (are_blank_from (place_after place first) bytes) (is_blank_at (place_behind (place_after place first) bytes) byte)
+    ∙ and_assoc (is_blank_at place first) (are_blank_from (place_after place first) bytes) (is_blank_at (place_after_all (place_after place first) bytes) byte)
 
 plain-more : (bytes : List ℕ) (byte size : ℕ) → byte_order_mark_size bytes ≡ size → byte_order_mark_size (bytes ++ byte ∷ []) ≡ size → drop size (bytes ++ byte ∷ []) ≡ drop size bytes ++ byte ∷ [] →
-    is_blank_so_far (bytes ++ byte ∷ []) ≡ (is_blank_so_far bytes && is_blank_at (place_behind Outside bytes) byte)
+    is_blank_so_far (bytes ++ byte ∷ []) ≡ (is_blank_so_far bytes && is_blank_at (place_after_all Outside bytes) byte)
 plain-more bytes byte size old new apart =
-    let place : place_behind Outside (drop size bytes) ≡ place_behind Outside bytes = subst (λ n. place_behind Outside (drop n bytes) ≡ place_behind Outside bytes) old (place-marked bytes) in
+    let place : place_after_all Outside (drop size bytes) ≡ place_after_all Outside bytes = subst (λ n. place_after_all Outside (drop n bytes) ≡ place_after_all Outside bytes) old (place-marked bytes) in
     rw (old, new, apart, ← place) (are_blank-more Outside (drop size bytes) byte)
 
 pub blank-next : (bytes kept : List ℕ) (before byte : ℕ) → before ≡ length bytes → (before ≡ 2 → kept ≡ bytes ++ byte ∷ []) →
-    (((before == 2) && (byte_order_mark_size kept == 3)) || (is_blank_so_far bytes && is_blank_at (place_behind Outside bytes) byte)) ≡ is_blank_so_far (bytes ++ byte ∷ [])
+    (((before == 2) && (byte_order_mark_size kept == 3)) || (is_blank_so_far bytes && is_blank_at (place_after_all Outside bytes) byte)) ≡ is_blank_so_far (bytes ++ byte ∷ [])
 blank-next [] kept before byte count same = rw count (sym (plain-more [] byte 0 (unmarked [] (omega arith)) (unmarked (byte ∷ []) (omega arith)) refl))
 blank-next (a ∷ []) kept before byte count same = rw count (sym (plain-more (a ∷ []) byte 0 (unmarked (a ∷ []) (omega arith)) (unmarked (a ∷ byte ∷ []) (omega arith)) refl))
 blank-next (a ∷ b ∷ []) kept before byte count same = elim (cases_Bool (starts_with nat_eq (a ∷ b ∷ byte ∷ []) byte_order_mark)) [
   | inl is ↦ rw (count, same count, is) refl
   | inr is ↦
       let none : byte_order_mark_size (a ∷ b ∷ byte ∷ []) ≡ 0 = rw is refl in
-      rw (count, same count) (ap (λ size. (size == 3) || (is_blank_so_far (a ∷ b ∷ []) && is_blank_at (place_behind Outside (a ∷ b ∷ [])) byte)) none
+      rw (count, same count) (ap (λ size. (size == 3) || (is_blank_so_far (a ∷ b ∷ []) && is_blank_at (place_after_all Outside (a ∷ b ∷ [])) byte)) none
       ∙ sym (plain-more (a ∷ b ∷ []) byte 0 (unmarked (a ∷ b ∷ []) (omega arith)) none refl))
 ]
 blank-next (a ∷ b ∷ c ∷ rest) kept before byte count same =

@@ -1,4 +1,4 @@
--- The last component of a path.
+-- The last component of a path, by which the program knows its name.
 use Rattle.std.proofs.Common.{◌≡◌, ◌≤◌, ◌<◌, ◌-◌, ◌==◌, ℕ, List, ap, arith, drop, false, get_or, length, true}
 use Rattle.std.specs.Prelude.{not}
 use Rattle.std.specs.List.{suffix_len}

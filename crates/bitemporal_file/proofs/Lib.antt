@@ -1,8 +1,14 @@
-mod Told
+mod ReporterFacts
 mod RunFacts
 mod SessionFacts
 mod StoreFacts
 mod OpenFacts
+mod HeldFacts
+mod ListingFacts
+mod CountFacts
+mod VerificationFacts
+mod CommandFacts
+mod Answered
 mod CalledFacts
 mod BlankFacts
 mod PartExamples

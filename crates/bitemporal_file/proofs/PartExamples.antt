@@ -1,7 +1,7 @@
 -- Worked rows: where the parts of a session end.
 use Rattle.std.specs.Prelude.{◌≡◌, codes, refl}
 use Rattle.bitemporal_file.specs.declared.parts.Place.TheVariants.{Outside, InComment, Ended}
-use Rattle.bitemporal_file.specs.Parts.{EndsAtSemicolon, IsOpen, place_behind}
+use Rattle.bitemporal_file.specs.Parts.{EndsAtSemicolon, IsOpen, place_after_all}
 
 -- at a semicolon
 statement-ends : EndsAtSemicolon (codes "AT 1;")
@@ -11,19 +11,19 @@ statement-ends = (codes "AT 1", 59, refl, (λ is. cc), refl)
 text-open : IsOpen (codes "('it''s;")
 text-open = λ is. cc
 
-text_behind : place_behind Outside (codes "('it''s;'") ≡ Outside
-text_behind = refl
+text_after : place_after_all Outside (codes "('it''s;'") ≡ Outside
+text_after = refl
 
 -- nor in a comment, which ends with its line
-comment-open : place_behind Outside (codes "1 -- one; two") ≡ InComment
+comment-open : place_after_all Outside (codes "1 -- one; two") ≡ InComment
 comment-open = refl
 
-comment-ends : place_behind Outside (codes "1 -- 'one;\n;") ≡ Ended
+comment-ends : place_after_all Outside (codes "1 -- 'one;\n;") ≡ Ended
 comment-ends = refl
 
 -- one dash begins no comment, nor do two in a text
-dash-ends : place_behind Outside (codes "-;") ≡ Ended
+dash-ends : place_after_all Outside (codes "-;") ≡ Ended
 dash-ends = refl
 
-dashes_in_text : place_behind Outside (codes "'--';") ≡ Ended
+dashes_in_text : place_after_all Outside (codes "'--';") ≡ Ended
 dashes_in_text = refl

@@ -18,10 +18,10 @@ use Rattle.script_engine.specs.script.Script.{MayRefuseScript, most_bytes}
 use Rattle.command_line.specs.Reading.{read_of}
 use Rattle.command_line.specs.declared.fault.RunFault.{RunFault}
 use Rattle.command_line.specs.declared.fault.RunFault.TheVariants.{Memory, Read, Script}
-use Rattle.bitemporal_file.specs.Reporting.{EndsAtRefusal, IsReportFault, TellsAll, greatest_from, texts_from}
+use Rattle.bitemporal_file.specs.Reporting.{EndsAtRefusal, IsReportFault, ReceivesResults, greatest_from, texts_from}
 use Rattle.bitemporal_file.specs.ScriptRuns.{AllButLast, AreOfReaders, AreRun, Ends, IsWhole, LeadsTo, MayRefuseNext, ScriptRun, reports, results_of}
 use Rattle.bitemporal_file.specs.declared.reporter.Reporter.{Reporter}
-use Rattle.bitemporal_file.proofs.Told.{greatest-more, refusal-more}
+use Rattle.bitemporal_file.proofs.ReporterFacts.{greatest-more, refusal-more}
 
 -- ---- one script
 
@@ -35,7 +35,7 @@ pub read_bytes : (known : Option (List ℕ)) (script items : List ℕ) → scrip
 read_bytes None script items same bytes = tt
 read_bytes (Some all) script items same bytes = same ∙ bytes
 
--- its refusal is one of what the reader has
+-- the refusal of a script is one of the bytes that the reader has
 pub read_refusal : (known : Option (List ℕ)) (script items : List ℕ) (refusal : Refusal) → script ≡ items → IfSome known (λ all. items ≡ read_of most_bytes all) → MayRefuseScript script refusal → IfSome known (λ all. MayRefuseScript (read_of most_bytes all) refusal)
 read_refusal None script items refusal same bytes may = tt
 read_refusal (Some all) script items refusal same bytes may = subst (λ (text : List ℕ). MayRefuseScript text refusal) (same ∙ bytes) may
@@ -90,7 +90,7 @@ module _ {W K : Type 0} (contents : W → Option (List ℕ)) (text : ℕ → K �
   no_fault (Some x) same some = cc
 
   -- a script whose report met no fault
-  pub one_ended : (known : Option (List ℕ)) (script : List ℕ) (old : Reporter W) (results : List K) (goes_on : Bool) (new : Reporter W) → new.fault ≡ None → TellsAll contents text status (record old { next = 1 }) results goes_on new →
+  pub one_ended : (known : Option (List ℕ)) (script : List ℕ) (old : Reporter W) (results : List K) (goes_on : Bool) (new : Reporter W) → new.fault ≡ None → ReceivesResults contents text status (record old { next = 1 }) results goes_on new →
       Ends contents text status (known ∷ []) old (one script results goes_on) (Ok goes_on) new
   one_ended known script old results goes_on new quiet told = record {
     stops = told.stops;
@@ -125,12 +125,12 @@ module _ {W K : Type 0} (contents : W → Option (List ℕ)) (text : ℕ → K �
   its_own None its is may = let no : ⊥ = cc in absurd no
   its_own (Some f) its is may = let same : f ≡ its = cc in subst IsReportFault same may
 
-  pub faulty_flow : (goes_on : Bool) (old new : Reporter W) (results : List K) (fault : RunFault) → new.fault ≡ Some fault → TellsAll contents text status old results goes_on new → IfSome new.fault IsReportFault
+  pub faulty_flow : (goes_on : Bool) (old new : Reporter W) (results : List K) (fault : RunFault) → new.fault ≡ Some fault → ReceivesResults contents text status old results goes_on new → IfSome new.fault IsReportFault
   faulty_flow false old new results fault is told = (told.off refl).0
   faulty_flow true old new results fault is told = rw (told.on refl).0 tt
 
   -- a script whose report met one
-  pub one_faulty : (known : Option (List ℕ)) (script : List ℕ) (old : Reporter W) (results : List K) (goes_on : Bool) (new : Reporter W) (fault : RunFault) → new.fault ≡ Some fault → TellsAll contents text status (record old { next = 1 }) results goes_on new →
+  pub one_faulty : (known : Option (List ℕ)) (script : List ℕ) (old : Reporter W) (results : List K) (goes_on : Bool) (new : Reporter W) (fault : RunFault) → new.fault ≡ Some fault → ReceivesResults contents text status (record old { next = 1 }) results goes_on new →
       Ends contents text status (known ∷ []) old (one script results goes_on) (Err fault) new
   one_faulty known script old results goes_on new fault is told =
       let may = faulty_flow goes_on (record old { next = 1 }) new results fault is told in
@@ -231,9 +231,9 @@ module _ {W K : Type 0} (contents : W → Option (List ℕ)) (text : ℕ → K �
     refused = λ refusal is. next-within readers rest runs refusal (ends.refused refusal is);
   }
 
--- ---- which came to their ends
+-- ---- runs that came to their ends
 
--- the run goes on where it does not stop
+-- the run continues where it does not stop
 pub went_on : (goes_on : Bool) → ◌≢◌ {A = Result Bool RunFault} (Ok goes_on) (Ok false) → goes_on ≡ true
 went_on true on = refl
 went_on false on = absurd (on refl)
@@ -261,9 +261,6 @@ module _ {K : Type 0} where
     last = λ quiet on. All-append (IsWhole {K = K}) runs more wholes (after.last quiet on);
   }
 
-  pub whole_more : (runs : List (ScriptRun K)) (run : ScriptRun K) → All IsWhole runs → run.is_whole ≡ true → All IsWhole (runs ++ run ∷ [])
-  whole_more runs run wholes whole = All-append (IsWhole {K = K}) runs (run ∷ []) wholes (All-cons (IsWhole {K = K}) run [] whole (All-nil (IsWhole {K = K})))
-
   pub whole_ran : (runs more : List (ScriptRun K)) (ended : Result Bool RunFault) (fault : Option RunFault) → All IsWhole runs → AreRun more ended fault → ended ≡ Ok true → fault ≡ None → All IsWhole (runs ++ more)
   whole_ran runs more ended fault wholes after on quiet =
       All-append (IsWhole {K = K}) runs more wholes (after.last quiet (λ off. let no : ◌≡◌ {A = Result Bool RunFault} (Ok true) (Ok false) = sym on ∙ off in cc))
@@ -289,9 +286,9 @@ pub leads-more : {H K : Type 0} (IsStep : H → List Lexeme → K → H → Type
 leads-more IsStep opening [] more middle last same rest = subst (λ h. LeadsTo IsStep h more last) same rest
 leads-more IsStep opening (run ∷ runs) more middle last (made, leads) rest = (made, leads-more IsStep made.last runs more middle last leads rest)
 
--- what an engine represents its database stands for, and that is committed
-pub stands_for : {S : Type 0} (g : Ghosts S) (history : History) (engine : EngineState S) (connection : Held S) → connection ≡ engine.connection → EngineRepresents g history engine →
+-- the database of an engine holds the history that the engine represents, and that is committed
+pub stands_for_history : {S : Type 0} (g : Ghosts S) (history : History) (engine : EngineState S) (connection : Held S) → connection ≡ engine.connection → EngineRepresents g history engine →
     DatabaseRepresents history (state g connection).now × ((state g connection).committed ≡ (state g connection).now)
-stands_for {S = S} g history engine connection same represents =
+stands_for_history {S = S} g history engine connection same represents =
     let said = subst (AreOfHistory history) (sym (same_units represents.contents)) represents.said in
     subst (λ (held : Held S). DatabaseRepresents history (state g held).now × ((state g held).committed ≡ (state g held).now)) (sym same) (inr (Microseconds, represents.contents, represents.stored.now, said), represents.stored.committed)

@@ -1,9 +1,6 @@
 -- A store that is opened, run over and closed.
-use Rattle.std.proofs.Common.{◌≡◌, ◌==◌, ◌∷◌, ◌∙◌, ℕ, Bool, List, [], Option, None, Some, Result, arith, length, map, false, true, refl}
+use Rattle.std.proofs.Common.{◌≡◌, ◌==◌, ◌∷◌, ℕ, Bool, List, [], Option, Result, arith, length, map, false, true}
 use Rattle.std.proofs.lemmas.Bool.{eqb-true}
-use Rattle.std.specs.Io.Buffered.{reader_buffer, reader_capacity, reader_inner, reader_remaining}
-use Rattle.std.specs.Io.KnownBytes.{prepend_known}
-use Rattle.std.specs.declared.io.buffered.BufReader.{BufReader}
 use Rattle.period_core.specs.declared.refusal.Refusal.{Refusal}
 use Rattle.sql_statements.specs.Lexemes.{Lexeme}
 use Rattle.history_model.specs.Histories.{History}
@@ -13,38 +10,24 @@ use Rattle.bitemporal_file.specs.ScriptRuns.{LeadsTo}
 use Rattle.bitemporal_file.specs.StoreRuns.{RunsGiven, RunsScripts, RunsSession}
 use Rattle.bitemporal_file.specs.declared.reporter.Reporter.{Reporter}
 
--- what a reader has of which nothing was read yet
-pub buffered : {T A : Type 0} (remaining : T → Option (List ℕ)) (reader : BufReader T A) (inner : T) → reader_inner reader ≡ inner → reader_buffer reader ≡ [] → reader_capacity reader ≡ 8192 → reader_remaining remaining reader ≡ remaining inner
-buffered remaining reader inner within empty capacity =
-    let whole : reader_remaining remaining reader ≡ prepend_known [] (remaining inner) = rw (capacity, empty, within) refl in
-    whole ∙ nothing_before (remaining inner)
-  where
-    nothing_before : (known : Option (List ℕ)) → prepend_known [] known ≡ known
-    nothing_before None = refl
-    nothing_before (Some bytes) = refl
-
-module _ {E K W X : Type 0} (IsStep : History → List Lexeme → K → History → Type 0) (IsStepOver : E → List Lexeme → K → E → Type 0) (refused : Refusal → K) (contents : W → Option (List ℕ)) (text : ℕ → K → List ℕ) (status : K → ℕ) (First : (History → History → Type 0) → Type 0) (FirstOver : (E → E → Type 0) → Type 0) where
+module _ {E K W X : Type 0} (IsStep : History → List Lexeme → K → History → Type 0) (IsStepOver : E → List Lexeme → K → E → Type 0) (Tell : History → List ℕ → List ℕ → History → Type 0) (TellOver : E → List ℕ → List ℕ → E → Type 0) (refused : Refusal → K) (contents : W → Option (List ℕ)) (text : ℕ → K → List ℕ) (status : K → ℕ) (First : (History → History → Type 0) → Type 0) (FirstOver : (E → E → Type 0) → Type 0) where
   -- no script is named
-  pub given_session : (bytes : X → List ℕ) (content : List ℕ → Option (List ℕ)) (files : List X) (known : Option (List ℕ)) (old : Reporter W) (ended : Result Bool RunFault) (new : Reporter W) → (length files == 0) ≡ true → RunsSession IsStep IsStepOver refused contents text status First FirstOver known old ended new →
-      RunsGiven IsStep IsStepOver refused contents text status First FirstOver (map content (map bytes files)) known old ended new
-  given_session bytes content [] known old ended new none run = run
-  given_session bytes content (file ∷ files) known old ended new none run =
+  pub given_session : (bytes : X → List ℕ) (content : List ℕ → Option (List ℕ)) (files : List X) (known : Option (List ℕ)) (failed : Bool) (old : Reporter W) (ended : Result Bool RunFault) (new : Reporter W) → (length files == 0) ≡ true → RunsSession IsStep IsStepOver Tell TellOver refused contents text status First FirstOver known failed old ended new →
+      RunsGiven IsStep IsStepOver Tell TellOver refused contents text status First FirstOver (map content (map bytes files)) known failed old ended new
+  given_session bytes content [] known failed old ended new none run = run
+  given_session bytes content (file ∷ files) known failed old ended new none run =
       let is : length (file ∷ files) ≡ 0 = eqb-true (length (file ∷ files)) 0 none in
       absurd (omega (arith, is))
 
   -- one is
-  pub given_scripts : (bytes : X → List ℕ) (content : List ℕ → Option (List ℕ)) (files : List X) (known : Option (List ℕ)) (old : Reporter W) (ended : Result Bool RunFault) (new : Reporter W) → (length files == 0) ≡ false →
-      RunsScripts IsStep IsStepOver refused contents text status First FirstOver (map content (map bytes files)) old ended new → RunsGiven IsStep IsStepOver refused contents text status First FirstOver (map content (map bytes files)) known old ended new
-  given_scripts bytes content [] known old ended new some run = let no : ⊥ = cc in absurd no
-  given_scripts bytes content (file ∷ files) known old ended new some run = run
+  pub given_scripts : (bytes : X → List ℕ) (content : List ℕ → Option (List ℕ)) (files : List X) (known : Option (List ℕ)) (failed : Bool) (old : Reporter W) (ended : Result Bool RunFault) (new : Reporter W) → (length files == 0) ≡ false →
+      RunsScripts IsStep IsStepOver Tell TellOver refused contents text status First FirstOver (map content (map bytes files)) old ended new → RunsGiven IsStep IsStepOver Tell TellOver refused contents text status First FirstOver (map content (map bytes files)) known failed old ended new
+  given_scripts bytes content [] known failed old ended new some run = let no : ⊥ = cc in absurd no
+  given_scripts bytes content (file ∷ files) known failed old ended new some run = run
 
-module _ {E K W : Type 0} (IsStep : History → List Lexeme → K → History → Type 0) (IsStepOver : E → List Lexeme → K → E → Type 0) (refused : Refusal → K) (contents : W → Option (List ℕ)) (text : ℕ → K → List ℕ) (status : K → ℕ) (First : (History → History → Type 0) → Type 0) (FirstOver : (E → E → Type 0) → Type 0) where
-  -- what its steps led to, in other words
-  pub given_so : (Second : (History → History → Type 0) → Type 0) (SecondOver : (E → E → Type 0) → Type 0) → ((Led : History → History → Type 0) → First Led → Second Led) → ((Led : E → E → Type 0) → FirstOver Led → SecondOver Led) → (readers : List (Option (List ℕ))) (known : Option (List ℕ)) (old : Reporter W) (ended : Result Bool RunFault) (new : Reporter W) →
-      RunsGiven IsStep IsStepOver refused contents text status First FirstOver readers known old ended new → RunsGiven IsStep IsStepOver refused contents text status Second SecondOver readers known old ended new
-  given_so Second SecondOver so over [] known old ended new (runs, parts, run, ends, led, did) = (runs, parts, run, ends, so (λ history last. LeadsThrough IsStep refused 0 history runs last) led, over (λ first last. LeadsThrough IsStepOver refused 0 first runs last) did)
-  given_so Second SecondOver so over (reader ∷ readers) known old ended new (runs, are, run, ends, led, did) = (runs, are, run, ends, so (λ history last. LeadsTo IsStep history runs last) led, over (λ first last. LeadsTo IsStepOver first runs last) did)
-
-  -- what is known of the input, in other words
-  pub session_known : (known other : Option (List ℕ)) (old : Reporter W) (ended : Result Bool RunFault) (new : Reporter W) → other ≡ known → RunsSession IsStep IsStepOver refused contents text status First FirstOver other old ended new → RunsSession IsStep IsStepOver refused contents text status First FirstOver known old ended new
-  session_known known other old ended new same ran = rw (← same) ran
+module _ {E K W : Type 0} (IsStep : History → List Lexeme → K → History → Type 0) (IsStepOver : E → List Lexeme → K → E → Type 0) (Tell : History → List ℕ → List ℕ → History → Type 0) (TellOver : E → List ℕ → List ℕ → E → Type 0) (refused : Refusal → K) (contents : W → Option (List ℕ)) (text : ℕ → K → List ℕ) (status : K → ℕ) (First : (History → History → Type 0) → Type 0) (FirstOver : (E → E → Type 0) → Type 0) where
+  -- the state to which the steps led, in other words
+  pub given_so : (Second : (History → History → Type 0) → Type 0) (SecondOver : (E → E → Type 0) → Type 0) → ((Led : History → History → Type 0) → First Led → Second Led) → ((Led : E → E → Type 0) → FirstOver Led → SecondOver Led) → (readers : List (Option (List ℕ))) (known : Option (List ℕ)) (failed : Bool) (old : Reporter W) (ended : Result Bool RunFault) (new : Reporter W) →
+      RunsGiven IsStep IsStepOver Tell TellOver refused contents text status First FirstOver readers known failed old ended new → RunsGiven IsStep IsStepOver Tell TellOver refused contents text status Second SecondOver readers known failed old ended new
+  given_so Second SecondOver so over [] known failed old ended new (runs, parts, run, ends, led, did) = (runs, parts, run, ends, so (λ history last. LeadsThrough IsStep refused Tell 0 history runs last) led, over (λ first last. LeadsThrough IsStepOver refused TellOver 0 first runs last) did)
+  given_so Second SecondOver so over (reader ∷ readers) known failed old ended new (runs, are, run, ends, led, did) = (runs, are, run, ends, so (λ history last. LeadsTo IsStep history runs last) led, over (λ first last. LeadsTo IsStepOver first runs last) did)

@@ -2,6 +2,13 @@ pub mod Reporting
 pub mod ScriptRuns
 pub mod Parts
 pub mod Sessions
+pub mod Listing
+pub mod Copies
+pub mod Verification
+pub mod Inspections
+pub mod Commands
 pub mod StoreRuns
+pub mod Backups
 pub mod StoreFiles
+pub mod ReadOnly
 pub mod Program

@@ -3,17 +3,17 @@ use Rattle.std.specs.Prelude.{◌≡◌, ◌==◌, [], ◌∷◌, ℕ, Bool, Lis
 use Rattle.std.specs.Prelude.{false, nat_eq}
 use Rattle.std.specs.List.{after_last, starts_with}
 use Rattle.clap.specs.Words.{Text, fault_of, matches_of}
-use Rattle.command_line.specs.CommandFaults.{IsToldFor}
-use Rattle.command_line.specs.FileCommand.{AskFor, Asks, IsFileCommand, IsFileFault, ListsAlone}
+use Rattle.command_line.specs.CommandFaults.{IsReportedFor}
+use Rattle.command_line.specs.FileCommand.{AskFor, Asks, HasConflict, IsFileCommand, IsFileFault}
 use Rattle.command_line.specs.FileCommand.{arguments_of, bitemporal_file}
 use Rattle.command_line.specs.Lines.{IsReported, MayBeReportedAs, fault_line}
 use Rattle.command_line.specs.declared.command.CommandFault.{CommandFault}
 use Rattle.command_line.specs.declared.command.CommandFault.TheVariants.{Memory}
 use Rattle.command_line.specs.declared.fault.ProgramName.TheVariants.{BitemporalFile}
 use Rattle.command_line.specs.declared.fault.RunFault.{RunFault}
-use Rattle.command_line.specs.declared.file_command.Asked.{Asked}
+use Rattle.command_line.specs.declared.file_command.Request.{Request}
 
--- the last component of a path: what stands behind its last slash, or all where it has none
+-- the last component of a path: what is after its last slash, or all if it has none
 abbrev pub last_component : Text → Text
 last_component path = after_last (λ byte. byte == 47) path
 
@@ -24,19 +24,19 @@ names_program (word ∷ words) = starts_with nat_eq (last_component word) (codes
 
 -- the words of a command line ask for this: no fault is found in them, and where they are in the
 -- usual form they say so
-pub record IsAskedBy (words : List Text) (asked : Asked) : Type 0 where
+pub record IsAskedBy (words : List Text) (asked : Request) : Type 0 where
   pub sound : fault_of bitemporal_file words ≡ []
   pub asks : Asks (matches_of bitemporal_file words) asked
-  pub alone : ListsAlone asked
+  pub alone : ¬ HasConflict asked
   pub usual : IsFileCommand (arguments_of words) → AskFor (arguments_of words) asked
 
--- they ask for nothing that runs, for this cause, which is a fault of theirs or want of memory; of
+-- words that ask for nothing that runs, for this cause: a fault of theirs, or out of memory; of
 -- words in the usual form only that
 pub record AskNothingFor (words : List Text) (fault : CommandFault) : Type 0 where
-  pub told : IsToldFor (IsFileFault words) fault
+  pub told : IsReportedFor (IsFileFault words) fault
   pub usual : IsFileCommand (arguments_of words) → fault ≡ Memory
 
--- how the program exits, and what standard error gets: nothing; or with status 2 the line of a
+-- the exit of the program, and of standard error: nothing; or with status 2 the line of a
 -- fault, whole unless a write failed
 abbrev pub ExitsAs : Result ℕ RunFault → ℕ → Bool → Option (List ℕ) → Option (List ℕ) → Type 0
 ExitsAs (Ok status) exit err_failed old new = (exit ≡ status) × (new ≡ old)

@@ -1,9 +1,11 @@
--- What is reported of a statement, and what a reporter becomes with it and with several.
+-- The report of a statement, and a reporter after it and after several.
 use Rattle.std.specs.Prelude.{◌≡◌, ◌≢◌, ◌≤◌, ◌⊎◌, ◌+◌, ◌++◌, ◌∷◌, ℕ, Bool, List, [], Option, None}
-use Rattle.std.specs.Prelude.{Result, Ok, Err, All, IfSome, IsSome, false, true, if◌then◌else◌}
+use Rattle.std.specs.Prelude.{Result, Err, All, IfSome, IsSome, false, true, if◌then◌else◌}
 use Rattle.std.specs.Prelude.{is_err, length, max}
 use Rattle.std.specs.Io.KnownBytes.{Appends}
+use Rattle.period_core.specs.Moments.{first_moment}
 use Rattle.period_core.specs.declared.refusal.Refusal.{Refusal}
+use Rattle.script_engine.specs.declared.script.timed.Timed.{Timed}
 use Rattle.statement_reports.specs.declared.outcome.Outcome.{Outcome}
 use Rattle.statement_reports.specs.declared.entry.Entry.{Entry}
 use Rattle.command_line.specs.Audits.{fails_audit}
@@ -11,17 +13,21 @@ use Rattle.command_line.specs.declared.fault.RunFault.{RunFault}
 use Rattle.command_line.specs.declared.fault.RunFault.TheVariants.{Memory, Write}
 use Rattle.bitemporal_file.specs.declared.reporter.Reporter.{Reporter}
 
--- 1 where the statement was refused, else 0
+-- 1 if the statement was refused, else 0
 abbrev pub result_status : Result Outcome Refusal → ℕ
 result_status result = if is_err result then 1 else 0
 
--- 3 where its audit did not agree or was refused; else 1 where it was refused, else 0
+-- 3 if its audit did not agree or was refused; else 1 if it was refused, else 0
 abbrev pub entry_status : Entry → ℕ
 entry_status entry = if fails_audit entry.audit then 3 else result_status entry.result
 
--- what is reported of a statement with audits that is refused as it is read
+-- the report of a statement with audits that is refused as it is read
 abbrev pub refused_entry : Refusal → Entry
 refused_entry refusal = record { result = Err refusal; audit = None }
+
+-- the report at the system's time of a statement that is refused as it is read
+abbrev pub timed_refusal : {K : Type 0} → (Refusal → K) → Refusal → Timed K
+timed_refusal refused refusal = record { time = first_moment; kept = refused refusal }
 
 -- a report of nothing yet
 pub record IsUnused {W : Type 0} (reporter : Reporter W) : Type 0 where
@@ -35,8 +41,8 @@ abbrev pub IsReportFault : RunFault → Type 0
 IsReportFault fault = (fault ≡ Memory) ⊎ (fault ≡ Write)
 
 -- the reporter of a run that may stop at a refusal receives a result, and says whether the run
--- goes on
-pub record Tells {W K : Type 0} (contents : W → Option (List ℕ)) (text : ℕ → K → List ℕ)
+-- continues
+pub record ReceivesResult {W K : Type 0} (contents : W → Option (List ℕ)) (text : ℕ → K → List ℕ)
     (status : K → ℕ) (old : Reporter W) (kept : K) (goes_on : Bool) (new : Reporter W)
     : Type 0 where
   pub stops : new.stops ≡ old.stops
@@ -48,7 +54,7 @@ pub record Tells {W K : Type 0} (contents : W → Option (List ℕ)) (text : ℕ
   pub written : new.fault ≡ None
       → Appends (contents old.out) (contents new.out) (text old.next kept)
       × (new.next ≡ old.next + 1)
-  -- it goes on where there is no fault, and with --stop only after a statement that has status 0
+  -- the run goes on if there is no fault, and with --stop only after a statement that has status 0
   pub on : goes_on ≡ true
       → (new.fault ≡ old.fault) × (old.stops ≡ true → status kept ≡ 0)
   pub off : goes_on ≡ false → old.fault ≡ None
@@ -74,11 +80,11 @@ EndsAtRefusal status (result ∷ results) =
     ⊎ ((status result ≡ 0) × EndsAtRefusal status results)
 
 -- the reporter receives results, one after the other
-pub record TellsAll {W K : Type 0} (contents : W → Option (List ℕ)) (text : ℕ → K → List ℕ)
+pub record ReceivesResults {W K : Type 0} (contents : W → Option (List ℕ)) (text : ℕ → K → List ℕ)
     (status : K → ℕ) (old : Reporter W) (results : List K) (goes_on : Bool) (new : Reporter W)
     : Type 0 where
   pub stops : new.stops ≡ old.stops
-  -- it is unused only where there are none
+  -- a reporter is unused only if there are no results
   pub unused : new.is_unused ≡ true → (old.is_unused ≡ true) × (results ≡ [])
   pub worst : new.worst ≡ greatest_from status old.worst results
   pub low : old.worst ≤ 3 → new.worst ≤ 3
@@ -90,20 +96,3 @@ pub record TellsAll {W K : Type 0} (contents : W → Option (List ℕ)) (text : 
   pub off : goes_on ≡ false
       → IfSome new.fault IsReportFault
       × (IsSome new.fault ⊎ ((old.stops ≡ true) × EndsAtRefusal status results))
-
--- how a run ends whose reporter received these results, before a fault or not
-pub record EndsWith {W K : Type 0} (contents : W → Option (List ℕ)) (text : ℕ → K → List ℕ)
-    (status : K → ℕ) (old : Reporter W) (results : List K) (ended : Result Bool RunFault)
-    (new : Reporter W) : Type 0 where
-  pub stops : new.stops ≡ old.stops
-  -- it is unused only where there are none
-  pub unused : new.is_unused ≡ true → (old.is_unused ≡ true) × (results ≡ [])
-  pub worst : new.worst ≡ greatest_from status old.worst results
-  pub low : old.worst ≤ 3 → new.worst ≤ 3
-  -- the output got the reports, and nothing else, unless the report was at fault
-  pub written : new.fault ≡ None
-      → Appends (contents old.out) (contents new.out) (texts_from text old.next results)
-  pub faulty : IfSome new.fault (λ fault. IsReportFault fault × (ended ≡ Err fault))
-  -- at its end, with --stop without a refusal; or at the first
-  pub whole : ended ≡ Ok true → old.stops ≡ true → All (λ result. status result ≡ 0) results
-  pub stopped : ended ≡ Ok false → (old.stops ≡ true) × EndsAtRefusal status results

@@ -35,7 +35,7 @@ AreOfReaders [] (run ∷ runs) = ⊥
 AreOfReaders (known ∷ readers) (run ∷ runs) =
     IfSome known (λ all. run.script ≡ read_of most_bytes all) × AreOfReaders readers runs
 
--- it came to its end
+-- a run that came to its end
 abbrev pub IsWhole : {K : Type 0} → ScriptRun K → Type 0
 IsWhole run = run.is_whole ≡ true
 
@@ -59,7 +59,7 @@ abbrev pub results_of : {K : Type 0} → List (ScriptRun K) → List K
 results_of [] = []
 results_of (run ∷ runs) = run.results ++ results_of runs
 
--- their reports, each numbered from 1, one after the other
+-- the reports of some runs, each numbered from 1, one after the other
 abbrev pub reports : {K : Type 0} → (ℕ → K → List ℕ) → List (ScriptRun K) → List ℕ
 reports text [] = []
 reports text (run ∷ runs) = texts_from text 1 run.results ++ reports text runs
@@ -72,12 +72,12 @@ MayRefuseNext (known ∷ readers) [] refusal =
     IfSome known (λ all. MayRefuseScript (read_of most_bytes all) refusal)
 MayRefuseNext (known ∷ readers) (run ∷ runs) refusal = MayRefuseNext readers runs refusal
 
--- how scripts end whose results a reporter receives, before a fault or not
+-- the end of scripts whose results a reporter receives, before a fault or not
 pub record Ends {W K : Type 0} (contents : W → Option (List ℕ)) (text : ℕ → K → List ℕ)
     (status : K → ℕ) (readers : List (Option (List ℕ))) (old : Reporter W)
     (runs : List (ScriptRun K)) (ended : Result Bool RunFault) (new : Reporter W) : Type 0 where
   pub stops : new.stops ≡ old.stops
-  -- it is unused only where no statement was run
+  -- the reporter is unused only if no statement was run
   pub unused : new.is_unused ≡ true → (old.is_unused ≡ true) × (results_of runs ≡ [])
   -- the greatest status of all statements
   pub worst : new.worst ≡ greatest_from status old.worst (results_of runs)

@@ -1,7 +1,9 @@
--- Sessions: the parts of an input that are run one after the other, as they are read.
-use Rattle.std.specs.Prelude.{◌≡◌, ◌⊎◌, ◌+◌, ◌++◌, ◌∷◌, ℕ, Bool, List, [], Option, Result}
-use Rattle.std.specs.Prelude.{All, Err, IfErr, IfSome, Ok, length, true, ⊤}
-use Rattle.std.specs.Io.KnownBytes.{Consumes}
+-- Sessions: the parts of an input that are run one after the other, as they are read, and the
+-- commands between them.
+use Rattle.std.specs.Prelude.{◌≡◌, ◌≤◌, ◌⊎◌, ◌+◌, ◌++◌, ◌∷◌, ℕ, Bool, List, [], Option, None}
+use Rattle.std.specs.Prelude.{Result, All, Err, IfErr, IfSome, Ok, false, flat_map, length, true}
+use Rattle.std.specs.Prelude.{⊤}
+use Rattle.std.specs.Io.KnownBytes.{Appends, Consumes}
 use Rattle.sql_statements.specs.Lexemes.{Lexeme}
 use Rattle.period_core.specs.declared.refusal.Refusal.{Refusal}
 use Rattle.period_core.specs.declared.refusal.Refusal.TheVariants.{BadToken}
@@ -10,8 +12,12 @@ use Rattle.command_line.specs.declared.fault.RunFault.TheVariants.{Memory, Read,
 use Rattle.command_line.specs.declared.fault.RunFault.TheVariants.{Write}
 use Rattle.script_engine.specs.script.Listening.{IsFrontRunBy}
 use Rattle.script_engine.specs.script.Script.{MayRefuseScript}
-use Rattle.bitemporal_file.specs.Parts.{EndsAtSemicolon, HasNoToken, IsUnfinished}
+use Rattle.bitemporal_file.specs.Parts.{EndsAtSemicolon, HasNoCommand, HasNoToken}
+use Rattle.bitemporal_file.specs.Parts.{IsCommandLine, IsUnfinished}
+use Rattle.bitemporal_file.specs.Reporting.{EndsAtRefusal, IsReportFault, ReceivesResults}
+use Rattle.bitemporal_file.specs.Reporting.{greatest_from, texts_from}
 use Rattle.bitemporal_file.specs.ScriptRuns.{ScriptRun}
+use Rattle.bitemporal_file.specs.declared.reporter.Reporter.{Reporter}
 
 -- the refusal of what begins at this byte: a bad token's place is counted from the beginning of all
 abbrev pub placed_at : ℕ → Refusal → Refusal
@@ -28,37 +34,139 @@ PartStep IsStep refused start opening run last =
     ⊎ ((refusal : Refusal) × MayRefuseScript run.script refusal
     × (run.results ≡ refused (placed_at start refusal) ∷ []) × (last ≡ opening))
 
--- the results are those of the parts, each run from the state to which the one before it led, and
--- the first of them begins at this byte
-abbrev pub LeadsThrough : {H K : Type 0} → (H → List Lexeme → K → H → Type 0)
-    → (Refusal → K) → ℕ → H → List (ScriptRun K) → H → Type 0
-LeadsThrough IsStep refused start opening [] last = last ≡ opening
-LeadsThrough {H} IsStep refused start opening (run ∷ runs) last =
-    (middle : H) × PartStep IsStep refused start opening run middle
-    × LeadsThrough IsStep refused (start + length run.script) middle runs last
+-- ---- the turns of a session
 
--- the bytes of the parts, one after the other
-abbrev pub bytes_of : {K : Type 0} → List (ScriptRun K) → List ℕ
-bytes_of [] = []
-bytes_of (run ∷ runs) = run.script ++ bytes_of runs
+-- a turn of a session: a part is run; or of the line of a command, which these bytes are, this is
+-- kept and that is reported
+pub data Turn (K : Type 0) : Type 0 where
+  Ran : (run : ScriptRun K) → Turn K
+  LineAnswered : (bytes line told : List ℕ) → Turn K
+
+-- the bytes of a turn
+abbrev pub bytes_in : {K : Type 0} → Turn K → List ℕ
+bytes_in (Ran run) = run.script
+bytes_in (LineAnswered bytes line told) = bytes
+
+-- the part that is run, if one is
+abbrev pub runs_in : {K : Type 0} → Turn K → List (ScriptRun K)
+runs_in (Ran run) = run ∷ []
+runs_in (LineAnswered bytes line told) = []
+
+-- the results of its statements: a command has none
+abbrev pub results_in : {K : Type 0} → Turn K → List K
+results_in (Ran run) = run.results
+results_in (LineAnswered bytes line told) = []
+
+-- the report of a turn, from the statement of a number on
+abbrev pub text_in : {K : Type 0} → (ℕ → K → List ℕ) → ℕ → Turn K → List ℕ
+text_in text n (Ran run) = texts_from text n run.results
+text_in text n (LineAnswered bytes line told) = told
+
+-- a line begins after the turn: after a command, and not after a semicolon
+abbrev pub ends_line : {K : Type 0} → Turn K → Bool
+ends_line (Ran run) = false
+ends_line (LineAnswered bytes line told) = true
+
+-- a turn's bytes are a part up to its semicolon or a command's line, after which this is left
+abbrev pub IsTurn : {K : Type 0} → Bool → Turn K → Option (List ℕ) → Type 0
+IsTurn starts (Ran run) left = EndsAtSemicolon run.script × HasNoCommand starts run.script
+IsTurn starts (LineAnswered bytes line told) left = IsCommandLine starts bytes line left
+
+-- a turn leads to a state, if its first byte is this one of the session
+abbrev pub TurnStep : {H K : Type 0} → (H → List Lexeme → K → H → Type 0) → (Refusal → K)
+    → (H → List ℕ → List ℕ → H → Type 0) → ℕ → H → Turn K → H → Type 0
+TurnStep IsStep refused IsAnswered start opening (Ran run) last =
+    PartStep IsStep refused start opening run last
+TurnStep IsStep refused IsAnswered start opening (LineAnswered bytes line told) last =
+    IsAnswered opening line told last
+
+-- a reporter receives the results of a turn's statements, and the output what is reported of it
+pub record ReceivesTurn {W K : Type 0} (contents : W → Option (List ℕ)) (text : ℕ → K → List ℕ)
+    (status : K → ℕ) (old : Reporter W) (turn : Turn K) (goes_on : Bool) (new : Reporter W)
+    : Type 0 where
+  pub results : ReceivesResults (λ out. None) text status old (results_in turn) goes_on new
+  pub written : new.fault ≡ None
+      → Appends (contents old.out) (contents new.out) (text_in text old.next turn)
+
+-- ---- the turns of a session
+
+-- the bytes of the turns, one after the other
+abbrev pub bytes_of : {K : Type 0} → List (Turn K) → List ℕ
+bytes_of turns = flat_map bytes_in turns
+
+-- the parts that were run, in order
+abbrev pub runs_of : {K : Type 0} → List (Turn K) → List (ScriptRun K)
+runs_of turns = flat_map runs_in turns
+
+-- the results of all statements
+abbrev pub all_results : {K : Type 0} → List (Turn K) → List K
+all_results turns = flat_map results_in turns
+
+-- the report of some turns, from the statement of a number on
+abbrev pub turns_text : {K : Type 0} → (ℕ → K → List ℕ) → ℕ → List (Turn K) → List ℕ
+turns_text text n [] = []
+turns_text text n (turn ∷ turns) =
+    text_in text n turn ++ turns_text text (n + length (results_in turn)) turns
+
+-- each turn is made from the state to which the one before it led, and the first of them begins at
+-- this byte
+abbrev pub LeadsThrough : {H K : Type 0} → (H → List Lexeme → K → H → Type 0) → (Refusal → K)
+    → (H → List ℕ → List ℕ → H → Type 0) → ℕ → H → List (Turn K) → H → Type 0
+LeadsThrough IsStep refused IsAnswered start opening [] last = last ≡ opening
+LeadsThrough {H} IsStep refused IsAnswered start opening (turn ∷ turns) last =
+    (middle : H) × TurnStep IsStep refused IsAnswered start opening turn middle
+    × LeadsThrough IsStep refused IsAnswered (start + length (bytes_in turn)) middle turns last
+
+-- known bytes are those of the turns, the first of which begins a line or does not, and then these
+abbrev pub AreCut : {K : Type 0} → Bool → Option (List ℕ) → List (Turn K) → Option (List ℕ)
+    → Type 0
+AreCut starts known [] left = left ≡ known
+AreCut starts known (turn ∷ turns) left =
+    (rest : Option (List ℕ)) × Consumes known rest (bytes_in turn) × IsTurn starts turn rest
+    × AreCut (ends_line turn) rest turns left
+
+-- a line begins after the turns
+abbrev pub begins_after : {K : Type 0} → Bool → List (Turn K) → Bool
+begins_after starts [] = starts
+begins_after starts (turn ∷ turns) = begins_after (ends_line turn) turns
 
 -- why a session ends: memory is out, the input or the report fails, or what is left is unfinished
-abbrev pub IsSessionFault : RunFault → Type 0
-IsSessionFault Memory = ⊤
-IsSessionFault Read = ⊤
-IsSessionFault Write = ⊤
-IsSessionFault Unfinished = ⊤
-IsSessionFault _ = ⊥
+abbrev pub IsSessionFault : Bool → RunFault → Type 0
+IsSessionFault failed Memory = ⊤
+IsSessionFault failed Read = failed ≡ true
+IsSessionFault failed Write = ⊤
+IsSessionFault failed Unfinished = ⊤
+IsSessionFault failed _ = ⊥
 
--- the known bytes of an input begin with those of the parts that were run
-pub record ArePartsOf {K : Type 0} (known : Option (List ℕ)) (runs : List (ScriptRun K))
-    (ended : Result Bool RunFault) : Type 0 where
-  -- each is up to its semicolon
-  pub cut : All (λ run. EndsAtSemicolon run.script) runs
+-- the known bytes of an input, which begin a line and whose reader has failed or not, begin with
+-- those of the turns
+pub record AreTurnsOf {K : Type 0} (known : Option (List ℕ)) (failed : Bool)
+    (turns : List (Turn K)) (ended : Result Bool RunFault) : Type 0 where
+  -- each is up to its semicolon, or the line of a command
   pub left : Option (List ℕ)
-  pub taken : Consumes known left (bytes_of runs)
-  -- where the session came to its end, no more than blanks and comments are left
+  pub cut : AreCut true known turns left
+  -- if the session came to its end, no more than blanks and comments are left
   pub all : ended ≡ Ok true → IfSome left HasNoToken
-  -- it is unfinished only where more is left, without a semicolon
-  pub unfinished : ended ≡ Err Unfinished → IfSome left IsUnfinished
-  pub fault : IfErr ended IsSessionFault
+  -- the session is unfinished only if more is left, without a semicolon or a command
+  pub unfinished : ended ≡ Err Unfinished
+      → IfSome left (λ rest. IsUnfinished rest × HasNoCommand (begins_after true turns) rest)
+  pub fault : IfErr ended (IsSessionFault failed)
+
+-- the end of a session whose reporter received the results of these turns, before a fault or not
+pub record EndsWith {W K : Type 0} (contents : W → Option (List ℕ)) (text : ℕ → K → List ℕ)
+    (status : K → ℕ) (old : Reporter W) (turns : List (Turn K)) (ended : Result Bool RunFault)
+    (new : Reporter W) : Type 0 where
+  pub stops : new.stops ≡ old.stops
+  -- the reporter is unused only if there are no results
+  pub unused : new.is_unused ≡ true → (old.is_unused ≡ true) × (all_results turns ≡ [])
+  pub worst : new.worst ≡ greatest_from status old.worst (all_results turns)
+  pub low : old.worst ≤ 3 → new.worst ≤ 3
+  -- the output got the reports, and nothing else, unless the report was at fault
+  pub written : new.fault ≡ None
+      → Appends (contents old.out) (contents new.out) (turns_text text old.next turns)
+  pub faulty : IfSome new.fault (λ fault. IsReportFault fault × (ended ≡ Err fault))
+  -- at its end, with --stop without a refusal; or at the first
+  pub whole : ended ≡ Ok true → old.stops ≡ true
+      → All (λ result. status result ≡ 0) (all_results turns)
+  pub stopped : ended ≡ Ok false
+      → (old.stops ≡ true) × EndsAtRefusal status (all_results turns)

@@ -26,17 +26,17 @@ use Rattle.bitemporal_file.specs.declared.stores.StoreEnd.{StoreEnd}
 use Rattle.bitemporal_file.specs.declared.stores.StoreEnd.TheVariants.{Unopened, Refused, GivenUp}
 use Rattle.bitemporal_file.specs.declared.stores.StoreEnd.TheVariants.{Closed, Unclosed}
 
--- as what a failure of the database library is told
-abbrev pub fault_told : Error → RunFault
-fault_told (SqliteFailure DatabaseBusy) = Locked
-fault_told (SqliteFailure CannotOpen) = NoStore
-fault_told (SqliteFailure OutOfMemory) = Memory
-fault_told (SqliteFailure NotADatabase) = Script BadStore
-fault_told (SqliteFailure DatabaseCorrupt) = Script BadStore
-fault_told _ = Script Store
+-- as what a failure of the database library is reported
+abbrev pub fault_for : Error → RunFault
+fault_for (SqliteFailure DatabaseBusy) = Locked
+fault_for (SqliteFailure CannotOpen) = NoStore
+fault_for (SqliteFailure OutOfMemory) = Memory
+fault_for (SqliteFailure NotADatabase) = Script BadStore
+fault_for (SqliteFailure DatabaseCorrupt) = Script BadStore
+fault_for _ = Script Store
 
 -- while the disk returns what was written, the connection is to the database that the files held,
--- or to a new one where they held none
+-- or to a new one if they held none
 abbrev pub Finds : {D : Type 0} {g : Ghosts D} → Image → Held (FileStore D g) → Type 0
 Finds image connection =
     HasCleanDisk (file_state connection)
@@ -49,7 +49,7 @@ FailsToOpen image Unopened fault = (fault ≡ NoStore) ⊎ ((fault ≡ Locked) �
 -- while the disk returned what was written, they hold no database, or memory is out, or the disk
 -- failed; and they are left as they were
 FailsToOpen {D} {g} image (Refused left) fault =
-    (error : Error) × (fault ≡ fault_told error)
+    (error : Error) × (fault ≡ fault_for error)
     × (files : Files D) × (image_of g files ≡ image)
     × (IsCleanLeft (manually_drop_value left)
     → FailsToOpenFiles files (manually_drop_value left) error
@@ -72,16 +72,16 @@ IsLeftAs (Unclosed left) connection = IsClosed connection left
 IsLeftAs _ connection = ⊥
 
 -- as what a failure of the database library is told that comes as a connection is closed
-abbrev pub closing_told : Error → RunFault
-closing_told (SqliteFailure OutOfMemory) = Memory
-closing_told _ = Script Store
+abbrev pub fault_for_closing : Error → RunFault
+fault_for_closing (SqliteFailure OutOfMemory) = Memory
+fault_for_closing _ = Script Store
 
 -- why the connection was not closed: while the disk returned what was written, memory is out, or
 -- the disk failed, then or before
 abbrev pub IsUnclosedFor : {D : Type 0} {g : Ghosts D} → StoreEnd D g → Held (FileStore D g)
     → RunFault → Type 0
 IsUnclosedFor (Unclosed left) connection fault =
-    (error : Error) × (fault ≡ closing_told error)
+    (error : Error) × (fault ≡ fault_for_closing error)
     × (IsClean (view left) → FailsToClose connection left error)
 IsUnclosedFor _ connection fault = ⊥
 
@@ -92,7 +92,7 @@ pub record Filing (S : Type 0) : Type 1 where
   pub Leaves : Held S → Type 0
   -- all that it committed is in its files
   pub Keeps : Held S → Type 0
-  -- it was not closed, for this cause
+  -- the files were not closed, for this cause
   pub Unclosed : Held S → RunFault → Type 0
 
 -- the fault is the one that ended what was done over the connection, or else that of closing it
@@ -100,7 +100,7 @@ abbrev pub IsItsFault : {T : Type 0} → (RunFault → Type 0) → Result T RunF
 IsItsFault IsOfClosing (Err cause) fault = cause ≡ fault
 IsItsFault IsOfClosing (Ok value) fault = IsOfClosing fault
 
--- those of files that held this, and of which that became
+-- the filing of files that held this, and that became so
 abbrev pub filing : {D : Type 0} {g : Ghosts D} → Image → StoreEnd D g → Filing (FileStore D g)
 filing image end = record {
   Fails = FailsToOpen image end;

@@ -1,7 +1,7 @@
--- What the program does with a store: it opens it, runs what its command line asks for, and closes
--- it.
+-- A store that the program opens, uses as its command line asks, and closes.
 use Rattle.std.specs.Prelude.{◌≡◌, ◌⊎◌, ◌∷◌, ℕ, Bool, List, [], Option, Result, Ok, Err, false}
-use Rattle.std.specs.Prelude.{map, true}
+use Rattle.std.specs.Prelude.{IfErr, MatchOption, OnOk, map, true}
+use Rattle.std.specs.Io.KnownBytes.{Appends}
 use Rattle.std.specs.String.{string_bytes}
 use Rattle.sqlite.specs.Held.{Held, state}
 use Rattle.sqlite.specs.Store.{Ghosts}
@@ -12,24 +12,30 @@ use Rattle.history_model.specs.Histories.{History}
 use Rattle.statement_reports.specs.AuditedReport.{entry_text}
 use Rattle.statement_reports.specs.Report.{text_of}
 use Rattle.version_tables.specs.Steps.{IsAsBefore}
-use Rattle.version_store.specs.StoreState.{IsOpenRefusal, IsUsable, SparesOthers}
+use Rattle.version_store.specs.StoreState.{IsOpenRefusal, IsStoreRefusal, IsUsable}
+use Rattle.version_store.specs.StoreState.{SparesOthers}
 use Rattle.script_engine.specs.engine.EngineState.{EngineState}
 use Rattle.script_engine.specs.engine.Stored.{DatabaseRepresents, EngineRepresents, IsBadStore}
 use Rattle.script_engine.specs.engine.Opens.{Opens}
 use Rattle.script_engine.specs.engine.Stored.{RepresentsSome, WasUsable}
 use Rattle.script_engine.specs.script.AuditedRuns.{AuditedPieceStep}
-use Rattle.script_engine.specs.script.Script.{KeptStepOver, PieceStep}
+use Rattle.script_engine.specs.script.Script.{KeptStepOver, PieceStep, PieceStepOver}
+use Rattle.script_engine.specs.script.Timed.{TimedPieceStep, TimedPieceStepOver}
 use Rattle.command_line.specs.declared.fault.RunFault.{RunFault}
-use Rattle.command_line.specs.declared.fault.RunFault.TheVariants.{Script}
-use Rattle.command_line.specs.declared.file_command.Asked.{Asked}
-use Rattle.bitemporal_file.specs.Reporting.{EndsWith, entry_status, refused_entry, result_status}
+use Rattle.command_line.specs.declared.fault.RunFault.TheVariants.{Script, Write}
+use Rattle.command_line.specs.declared.file_command.Request.{Request}
+use Rattle.bitemporal_file.specs.Commands as over
+use Rattle.bitemporal_file.specs.Commands.{IsAnswered}
+use Rattle.bitemporal_file.specs.Inspections.{inspection_in, report_asked}
+use Rattle.bitemporal_file.specs.Reporting.{entry_status, refused_entry, result_status}
+use Rattle.bitemporal_file.specs.Reporting.{timed_refusal}
 use Rattle.bitemporal_file.specs.ScriptRuns.{AreOfReaders, AreRun, Ends, LeadsTo, ScriptRun}
-use Rattle.bitemporal_file.specs.ScriptRuns.{results_of}
-use Rattle.bitemporal_file.specs.Sessions.{ArePartsOf, LeadsThrough}
+use Rattle.bitemporal_file.specs.Sessions.{AreTurnsOf, EndsWith, LeadsThrough, Turn, runs_of}
 use Rattle.bitemporal_file.specs.StoreFiles.{Filing, IsItsFault}
+use Rattle.bitemporal_file.specs.declared.inspections.Inspection.{Inspection}
 use Rattle.bitemporal_file.specs.declared.reporter.Reporter.{Reporter}
 
--- whatever history the engine represented, it represents one to which that led, where its disk
+-- whatever history the engine represented, it represents one to which that led, if its disk
 -- returned what was written
 abbrev pub LeadsEngine : {S : Type 0} → Ghosts S → EngineState S → EngineState S
     → (History → History → Type 0) → Type 0
@@ -37,8 +43,8 @@ LeadsEngine g old new Led =
     IsUsable g new.connection → (history : History) → EngineRepresents g history old
     → RepresentsSome g (Led history) new
 
--- whatever history the database stood for as it was opened, it stands for one to which that led as
--- it is closed, and that is committed, where its disk returned what was written
+-- whatever history the database represented at its opening, it represents one to which that led as
+-- it is closed, and that is committed, if its disk returned what was written
 abbrev pub LeadsDatabase : {S : Type 0} → Ghosts S → Held S → Held S
     → (History → History → Type 0) → Type 0
 LeadsDatabase g opened closed Led =
@@ -62,10 +68,13 @@ pub record RefusesStore {S : Type 0} (g : Ghosts S) (opened : Held S) (refusal :
   pub none : IsUsable g left → IsAsBefore (state g opened) (state g left)
 
 -- a run of results of this kind: the step of a history that each is, and that of an engine,
--- whatever its database holds; what is reported of a statement that is refused as it is read; the
--- records of each, and its exit status. The steps of a history lead so, and those of an engine
+-- whatever its database holds; what a command does in a history, and what over an engine; what is
+-- reported of a statement that is refused as it is read; the records of each, and its exit status.
+-- The steps of a history lead so, and those of an engine
 module _ {E K W : Type 0} (IsStep : History → List Lexeme → K → History → Type 0)
     (IsStepOver : E → List Lexeme → K → E → Type 0)
+    (IsAnswered : History → List ℕ → List ℕ → History → Type 0)
+    (IsAnsweredOver : E → List ℕ → List ℕ → E → Type 0)
     (refused : Refusal → K) (contents : W → Option (List ℕ)) (text : ℕ → K → List ℕ)
     (status : K → ℕ) (Leads : (History → History → Type 0) → Type 0)
     (Over : (E → E → Type 0) → Type 0) where
@@ -78,35 +87,65 @@ module _ {E K W : Type 0} (IsStep : History → List Lexeme → K → History �
       × Leads (λ history last. LeadsTo IsStep history runs last)
       × Over (λ first last. LeadsTo IsStepOver first runs last)
 
-  -- the parts of an input are run as they are read
-  abbrev pub RunsSession : Option (List ℕ) → Reporter W → Result Bool RunFault → Reporter W
-      → Type 0
-  RunsSession known old ended new =
-      (runs : List (ScriptRun K)) × ArePartsOf known runs ended × AreRun runs ended new.fault
-      × EndsWith contents text status old (results_of runs) ended new
-      × Leads (λ history last. LeadsThrough IsStep refused 0 history runs last)
-      × Over (λ first last. LeadsThrough IsStepOver refused 0 first runs last)
+  -- the parts of an input, whose reader has failed or not, are run as they are read, and the
+  -- commands between them are done
+  abbrev pub RunsSession : Option (List ℕ) → Bool → Reporter W → Result Bool RunFault
+      → Reporter W → Type 0
+  RunsSession known failed old ended new =
+      (turns : List (Turn K)) × AreTurnsOf known failed turns ended
+      × AreRun (runs_of turns) ended new.fault
+      × EndsWith contents text status old turns ended new
+      × Leads (λ history last. LeadsThrough IsStep refused IsAnswered 0 history turns last)
+      × Over (λ first last. LeadsThrough IsStepOver refused IsAnsweredOver 0 first turns last)
 
-  -- scripts, or where there is none the input
-  abbrev pub RunsGiven : List (Option (List ℕ)) → Option (List ℕ) → Reporter W
+  -- scripts, or if there is none the input
+  abbrev pub RunsGiven : List (Option (List ℕ)) → Option (List ℕ) → Bool → Reporter W
       → Result Bool RunFault → Reporter W → Type 0
-  RunsGiven [] known old ended new = RunsSession known old ended new
-  RunsGiven (reader ∷ readers) known old ended new = RunsScripts (reader ∷ readers) old ended new
+  RunsGiven [] known failed old ended new = RunsSession known failed old ended new
+  RunsGiven (reader ∷ readers) known failed old ended new =
+      RunsScripts (reader ∷ readers) old ended new
 
--- with an audit of each answer, or without
-abbrev pub RunsAs : {S W : Type 0} → Ghosts S → (W → Option (List ℕ)) → Bool
-    → List (Option (List ℕ)) → Option (List ℕ) → Reporter W → Held S → Result Bool RunFault
-    → Held S → Reporter W → Type 0
-RunsAs g contents false readers known old opened ended closed new =
-    RunsGiven PieceStep (KeptStepOver g (λ result. result)) (λ refusal. Err refusal)
-    contents text_of result_status (LeadsDatabase g opened closed) (LeadsOver g opened closed)
-    readers known old ended new
-RunsAs g contents true readers known old opened ended closed new =
-    RunsGiven AuditedPieceStep (KeptStepOver g (λ entry. entry.result)) refused_entry
-    contents entry_text entry_status (LeadsDatabase g opened closed) (LeadsOver g opened closed)
-    readers known old ended new
+-- a run of results of a kind over the store of a connection, from its opening to its end
+module _ {S K W : Type 0} (g : Ghosts S) (made : List ℕ → List ℕ → Type 0)
+    (IsStep : History → List Lexeme → K → History → Type 0)
+    (IsStepOver : EngineState S → List Lexeme → K → EngineState S → Type 0)
+    (refused : Refusal → K) (contents : W → Option (List ℕ)) (text : ℕ → K → List ℕ)
+    (status : K → ℕ) where
+  abbrev pub RunsKind : List (Option (List ℕ)) → Option (List ℕ) → Bool → Reporter W → Held S
+      → Result Bool RunFault → Held S → Reporter W → Type 0
+  RunsKind readers known failed old opened ended closed new =
+      RunsGiven IsStep IsStepOver (IsAnswered made) (over.IsAnsweredOver g) refused contents text
+      status
+      (LeadsDatabase g opened closed) (LeadsOver g opened closed) readers known failed old ended
+      new
 
--- how a store is opened and left, and what is run in between, or that nothing was; where it is
+-- a run at the system's time, or not
+module _ {S K W : Type 0} (g : Ghosts S) (made : List ℕ → List ℕ → Type 0)
+    (IsStep : History → List Lexeme → K → History → Type 0)
+    (IsStepOver : EngineState S → List Lexeme → K → EngineState S → Type 0)
+    (refused : Refusal → K) (contents : W → Option (List ℕ)) (text : ℕ → K → List ℕ)
+    (status : K → ℕ) where
+  abbrev pub RunsWithClock : Bool → List (Option (List ℕ)) → Option (List ℕ) → Bool → Reporter W
+      → Held S → Result Bool RunFault → Held S → Reporter W → Type 0
+  RunsWithClock false = RunsKind g made IsStep IsStepOver refused contents text status
+  RunsWithClock true =
+      RunsKind g made (TimedPieceStep IsStep refused) (TimedPieceStepOver g IsStepOver refused)
+      (timed_refusal refused) contents (λ number timed. text number timed.kept)
+      (λ timed. status timed.kept)
+
+-- with an audit of each answer, or without; where the system makes files
+abbrev pub RunsAs : {S W : Type 0} → Ghosts S → (List ℕ → List ℕ → Type 0)
+    → (W → Option (List ℕ)) → (audits timed : Bool)
+    → List (Option (List ℕ)) → Option (List ℕ) → Bool → Reporter W → Held S
+    → Result Bool RunFault → Held S → Reporter W → Type 0
+RunsAs g made contents false =
+    RunsWithClock g made PieceStep (PieceStepOver g) (λ refusal. Err refusal) contents text_of
+    result_status
+RunsAs g made contents true =
+    RunsWithClock g made AuditedPieceStep (KeptStepOver g (λ entry. entry.result)) refused_entry
+    contents entry_text entry_status
+
+-- a store that is opened and left, and the run in between, or that nothing was run; if it is
 -- used, its connection was usable as it was opened if it is so as it is left, and others have in
 -- its database what they had
 abbrev pub Uses : {S T W : Type 0} → Ghosts S → Filing S → (Reporter W → Type 0)
@@ -128,25 +167,49 @@ Uses {S} {T} g files IsUntouched Runs (Err fault) new =
     ⊎ ((ended : Result T RunFault) × WasUsable g opened left × SparesOthers g opened left
     × Runs opened ended left new × IsItsFault (files.Unclosed left) ended fault)))
 
--- what is asked for is run over a store: how its files are opened and left, which bytes the names
--- of scripts have, and what is known of the input, which is read only where the store is used
-abbrev pub RunsAsked : {S I W : Type 0} → Ghosts S → (W → Option (List ℕ)) → Filing S
-    → (List ℕ → Option (List ℕ)) → (I → Option (List ℕ)) → Asked → Reporter W → I
-    → Result ℕ RunFault → Reporter W → I → Type 0
-RunsAsked g contents files content_of remaining asked old unread result new input =
+-- the request of a command line is run over a store: by how its files are opened and left, by which
+-- bytes the names of scripts have, and by what is known of the input, which is read only if the
+-- store is used, and whether a read of it failed
+abbrev pub RunsAsked : {S I W : Type 0} → Ghosts S → (List ℕ → List ℕ → Type 0)
+    → (W → Option (List ℕ)) → Filing S → (List ℕ → Option (List ℕ)) → (I → Option (List ℕ))
+    → (I → Bool) → Request → Reporter W → I → Result ℕ RunFault → Reporter W → I → Type 0
+RunsAsked g made contents files content_of remaining failed asked old unread result new input =
     Uses g files (λ reporter. (reporter ≡ old) × (input ≡ unread))
-    (RunsAs g contents asked.audits (map content_of (map string_bytes asked.files.items))
-    (remaining unread) old)
+    (RunsAs g made contents asked.audits asked.timed
+    (map content_of (map string_bytes asked.files.items)) (remaining unread) (failed input) old)
     result new
 
--- the tables of an open store are listed: no statement is reported, and the history stays
-pub record ListsTables {S T W : Type 0} (g : Ghosts S) (old : Reporter W) (opened : Held S)
-    (ended : Result T RunFault) (closed : Held S) (new : Reporter W) : Type 0 where
+-- the causes for which nothing is written of an open store
+abbrev pub IsRefusalFault : RunFault → Type 0
+IsRefusalFault fault = (refusal : Refusal) × IsStoreRefusal refusal × (fault ≡ Script refusal)
+
+-- an open store is inspected: no statement is reported, and the history stays
+pub record IsInspected {S T W : Type 0} (g : Ghosts S) (contents : W → Option (List ℕ))
+    (inspection : Inspection) (old : Reporter W) (opened : Held S) (ended : Result T RunFault)
+    (closed : Held S) (new : Reporter W) : Type 0 where
   pub unreported : new ≡ record old { out = new.out }
   pub same : LeadsDatabase g opened closed (λ history last. last ≡ history)
+  -- the output got the report of the history for which the database stood, and nothing else
+  pub told : OnOk ended (IsUsable g closed → (history : History)
+      → DatabaseRepresents history (state g opened).now
+      → Appends (contents old.out) (contents new.out) (report_asked inspection history))
+  -- or a write failed; or memory is out or the disk failed, and it got nothing
+  pub fault : IfErr ended (λ fault. (fault ≡ Write) ⊎ (IsRefusalFault fault × (new.out ≡ old.out)))
 
--- those of a store are listed
-abbrev pub Lists : {S W : Type 0} → Ghosts S → Filing S → Reporter W → Result ℕ RunFault
-    → Reporter W → Type 0
-Lists {S} {W} g files old result new =
-    Uses g files (λ reporter. reporter ≡ old) (ListsTables {T = Unit {0}} g old) result new
+-- a store is opened, inspected and closed
+abbrev pub Inspects : {S W : Type 0} → Ghosts S → (W → Option (List ℕ)) → Filing S → Inspection
+    → Reporter W → Result ℕ RunFault → Reporter W → Type 0
+Inspects {S} {W} g contents files inspection old result new =
+    Uses g files (λ reporter. reporter ≡ old) (IsInspected {T = Unit {0}} g contents inspection old)
+    result new
+
+-- a command line is obeyed: the store is inspected as it asks, and no input is read; or else what
+-- it asks for is run
+abbrev pub DoesAsked : {S I W : Type 0} → Ghosts S → (List ℕ → List ℕ → Type 0)
+    → (W → Option (List ℕ)) → Filing S → (List ℕ → Option (List ℕ)) → (I → Option (List ℕ))
+    → (I → Bool) → Request → Reporter W → I → Result ℕ RunFault → Reporter W → I → Type 0
+DoesAsked g made contents files content_of remaining failed asked old unread result new input =
+    MatchOption (inspection_in asked)
+    (RunsAsked g made contents files content_of remaining failed asked
+    (record old { stops = asked.stops }) unread result new input)
+    (λ inspection. Inspects g contents files inspection old result new × (input ≡ unread))

@@ -5,7 +5,8 @@ ghost use Rattle.std.specs.String.{string_bytes};
 ghost use Rattle.version_store.specs.StoreState.{SparesOthers};
 ghost use Rattle.script_engine.specs.engine.Stored.{WasUsable};
 ghost use Rattle.sqlite_wal.specs.Files.{image_at};
-ghost use Rattle.script_engine.specs.script.Script.{KeptStepOver};
+ghost use Rattle.bitemporal_file.specs.Copies.{AnyFile};
+ghost use Rattle.bitemporal_file.specs.Commands.{IsAnswered, IsAnsweredOver};
 ghost use Rattle.bitemporal_file.specs.Reporting.{IsUnused};
 ghost use Rattle.bitemporal_file.specs.declared.stores.StoreEnd.TheVariants.{Unopened};
 ghost use Rattle.bitemporal_file.specs.StoreFiles.{IsInFiles, IsItsFault, IsLeftAs, IsUnclosedFor};
@@ -18,78 +19,97 @@ use crate::reporter::{Reported, Reporter};
 use crate::runs::run_all;
 use crate::session::run_parts;
 use crate::stores::{Filed, StoreFiles};
-use command_line::{Asked, RunFault, Scripts};
+use crate::system::System;
+use command_line::{Request, RunFault, Scripts, Tracked};
 use period_core::Refusal;
-use script_engine::{Engine, Entry, Outcome, PieceResult};
+use script_engine::{Engine, Entry, Outcome, PieceResult, Timed};
 use sqlite::{Alter, Connection, Start};
 use sqlite_trees::store::Store;
 use std::alloc::Global;
-use std::io::{BufReader, Read, Write};
+use std::io::{Read, Write};
 
-// Runs a session of the input, which is read in blocks, and reports each statement.
-fn run_input<S: Alter, K: PieceResult<S> + Reported + Drop, R: Read, W: Write>(
+// Runs a session of the input, and reports each statement.
+fn run_input<S: Alter, K: PieceResult<S> + Reported + Drop, C: System, R: Read, W: Write>(
     alloc: Global,
     engine: &mut Engine<S>,
-    input: &mut R,
+    system: &C,
+    input: &mut Tracked<R>,
     reporter: &mut Reporter<W>,
 ) -> Result<bool, RunFault>
     requires { reporter.old.fault ≡ None }
-    ensures ran { RunsSession K.is_step (KeptStepOver S.Store K.result_of) K.refused
+    ensures ran { RunsSession K.is_step K.is_step_over (IsAnswered C.made) (IsAnsweredOver S.Store)
+        K.refused
         W.contents K.text K.status_of (LeadsEngine S.Store engine.old engine.new)
-        (λ Led. Led engine.old engine.new) (R.remaining input.old)
-        reporter.old result reporter.new }
+        (λ Led. Led engine.old engine.new)
+        (R.remaining input.old.inner) input.new.has_failed reporter.old result reporter.new }
     ensures usable { WasUsable S.Store engine.old.connection engine.new.connection }
     ensures others { SparesOthers S.Store engine.old.connection engine.new.connection }
 {
-    let Ok(mut blocks) = BufReader::new(alloc, input) else {
-        return Err(RunFault::Memory);
-    };
-    run_parts::<S, K, _, W>(alloc, engine, &mut blocks, reporter)
+    run_parts::<S, K, C, R, W>(alloc, engine, system, input, reporter)
 }
 
 // Runs the scripts in files, or else a session of the input, and reports each statement.
-fn run_files<S: Alter, K: PieceResult<S> + Reported + Drop, Q: Scripts, R: Read, W: Write>(
+fn run_files<
+    S: Alter,
+    K: PieceResult<S> + Reported + Drop,
+    C: System,
+    Q: Scripts,
+    R: Read,
+    W: Write,
+>(
     alloc: Global,
     engine: &mut Engine<S>,
+    system: &C,
     scripts: &Q,
     files: &[String],
-    input: &mut R,
+    input: &mut Tracked<R>,
     reporter: &mut Reporter<W>,
 ) -> Result<bool, RunFault>
     requires { reporter.old.fault ≡ None }
-    ensures ran { RunsGiven K.is_step (KeptStepOver S.Store K.result_of) K.refused
+    ensures ran { RunsGiven K.is_step K.is_step_over (IsAnswered C.made) (IsAnsweredOver S.Store)
+        K.refused
         W.contents K.text K.status_of (LeadsEngine S.Store engine.old engine.new)
         (λ Led. Led engine.old engine.new)
-        (map (Q.content scripts.now) (map string_bytes files.now)) (R.remaining input.old)
-        reporter.old result reporter.new }
+        (map (Q.content scripts.now) (map string_bytes files.now))
+        (R.remaining input.old.inner) input.new.has_failed reporter.old result reporter.new }
     ensures low { reporter.old.worst ≤ 3 → reporter.new.worst ≤ 3 }
     ensures usable { WasUsable S.Store engine.old.connection engine.new.connection }
     ensures others { SparesOthers S.Store engine.old.connection engine.new.connection }
 {
     if files.is_empty() {
-        return run_input::<S, K, R, W>(alloc, engine, input, reporter);
+        return run_input::<S, K, C, R, W>(alloc, engine, system, input, reporter);
     }
-    run_all::<S, K, Q, W>(alloc, engine, scripts, files, reporter)
+    run_all::<S, K, C, Q, W>(alloc, engine, system, scripts, files, reporter)
 }
 
-// The same over the store of a connection, a new one where there is none. Gives the connection
-// back. An `Err` says why the store is not opened: it changes nothing, and nothing is read.
-fn run_store<S: Alter, K: PieceResult<S> + Reported + Drop, Q: Scripts, R: Read, W: Write>(
+/// Runs scripts, or a session, over the store of a connection, a new one if there is none. Gives
+/// the connection back. An `Err` says why the store is not opened: it changes nothing, and nothing
+/// is read.
+pub(crate) fn run_store<
+    S: Alter,
+    K: PieceResult<S> + Reported + Drop,
+    C: System,
+    Q: Scripts,
+    R: Read,
+    W: Write,
+>(
     alloc: Global,
     connection: Connection<S>,
+    system: &C,
     scripts: &Q,
     files: &[String],
-    input: &mut R,
+    input: &mut Tracked<R>,
     reporter: &mut Reporter<W>,
 ) -> Result<(Result<bool, RunFault>, Connection<S>), (Refusal, Connection<S>)>
     requires settled { connection.in_transaction ≡ false }
     requires fresh { reporter.old.fault ≡ None }
     ensures ran { IfOk result (λ ended.
-        RunsGiven K.is_step (KeptStepOver S.Store K.result_of) K.refused
+        RunsGiven K.is_step K.is_step_over (IsAnswered C.made) (IsAnsweredOver S.Store)
+        K.refused
         W.contents K.text K.status_of (LeadsDatabase S.Store connection ended.1)
         (LeadsOver S.Store connection ended.1)
-        (map (Q.content scripts.now) (map string_bytes files.now)) (R.remaining input.old)
-        reporter.old ended.0 reporter.new) }
+        (map (Q.content scripts.now) (map string_bytes files.now))
+        (R.remaining input.old.inner) input.new.has_failed reporter.old ended.0 reporter.new) }
     ensures usable { IfOk result (λ ended. WasUsable S.Store connection ended.1) }
     ensures others { IfOk result (λ ended. SparesOthers S.Store connection ended.1) }
     ensures closed { IfOk result (λ ended. ended.1.in_transaction ≡ false) }
@@ -99,24 +119,35 @@ fn run_store<S: Alter, K: PieceResult<S> + Reported + Drop, Q: Scripts, R: Read,
         × (reporter.new ≡ reporter.old) × (input.new ≡ input.old)) }
 {
     let mut engine = Engine::open(alloc, connection)?;
-    let ended = run_files::<S, K, Q, R, W>(alloc, &mut engine, scripts, files, input, reporter);
+    let ended = run_files::<S, K, C, Q, R, W>(
+        alloc,
+        &mut engine,
+        system,
+        scripts,
+        files,
+        input,
+        reporter,
+    );
     Ok((ended, engine.close_at_exit()))
 }
 
-// The same with an audit of each answer, or without.
-fn run_opened<S: Alter, Q: Scripts, R: Read, W: Write>(
+// Runs the scripts with an audit of each answer, or without; at the system's time, or not.
+fn run_opened<S: Alter, C: System, Q: Scripts, R: Read, W: Write>(
     alloc: Global,
     connection: Connection<S>,
+    system: &C,
     scripts: &Q,
-    asked: &Asked,
-    input: &mut R,
+    asked: &Request,
+    input: &mut Tracked<R>,
     reporter: &mut Reporter<W>,
 ) -> Result<(Result<bool, RunFault>, Connection<S>), (Refusal, Connection<S>)>
     requires settled { connection.in_transaction ≡ false }
     requires fresh { reporter.old.fault ≡ None }
-    ensures ran { IfOk result (λ ended. RunsAs S.Store W.contents asked.now.audits
+    ensures ran { IfOk result (λ ended. RunsAs S.Store C.made W.contents
+        asked.now.audits asked.now.timed
         (map (Q.content scripts.now) (map string_bytes asked.now.files.items))
-        (R.remaining input.old) reporter.old connection ended.0 ended.1 reporter.new) }
+        (R.remaining input.old.inner) input.new.has_failed
+        reporter.old connection ended.0 ended.1 reporter.new) }
     ensures usable { IfOk result (λ ended. WasUsable S.Store connection ended.1) }
     ensures others { IfOk result (λ ended. SparesOthers S.Store connection ended.1) }
     ensures low { reporter.old.worst ≤ 3 → reporter.new.worst ≤ 3 }
@@ -125,17 +156,25 @@ fn run_opened<S: Alter, Q: Scripts, R: Read, W: Write>(
         × (reporter.new ≡ reporter.old) × (input.new ≡ input.old)) }
 {
     let files = asked.files.as_slice();
-    if asked.audits {
-        return run_store::<S, Entry, Q, R, W>(alloc, connection, scripts, files, input, reporter);
+    match (asked.audits, asked.timed) {
+        (false, false) => run_store::<S, Result<Outcome, Refusal>, C, Q, R, W>(
+            alloc, connection, system, scripts, files, input, reporter,
+        ),
+        (false, true) => run_store::<S, Timed<Result<Outcome, Refusal>>, C, Q, R, W>(
+            alloc, connection, system, scripts, files, input, reporter,
+        ),
+        (true, false) => run_store::<S, Entry, C, Q, R, W>(
+            alloc, connection, system, scripts, files, input, reporter,
+        ),
+        (true, true) => run_store::<S, Timed<Entry>, C, Q, R, W>(
+            alloc, connection, system, scripts, files, input, reporter,
+        ),
     }
-    run_store::<S, Result<Outcome, Refusal>, Q, R, W>(
-        alloc, connection, scripts, files, input, reporter,
-    )
 }
 
 /// Closes the store after what was done over it. Where that failed before any statement was run,
 /// and the store is new, no file of it stays.
-pub(crate) fn end_over<S: Start, T: Drop, W>(
+pub(crate) fn end_over<S: Start + Copy, T: Drop, W>(
     stores: &mut StoreFiles<'_, S>,
     name: &str,
     report: &Reporter<W>,
@@ -148,13 +187,13 @@ pub(crate) fn end_over<S: Start, T: Drop, W>(
     ensures fault { IfErr result (IsItsFault (IsUnclosedFor stores.new.end connection) ended) }
 {
     match ended {
-        Ok(_) => stores.close_store(connection),
+        Ok(_) => stores.close_store(name, connection),
         Err(fault) if report.is_unused && stores.is_new() => {
             stores.give_up(name, report, connection);
             Err(fault)
         }
         Err(fault) => {
-            let _ = stores.close_store(connection);
+            let _ = stores.close_store(name, connection);
             Err(fault)
         }
     }
@@ -162,25 +201,29 @@ pub(crate) fn end_over<S: Start, T: Drop, W>(
 
 /// Runs what is asked for over the store that is named, with `--stop` as the report has it. Gives
 /// the exit status.
-pub(crate) fn run_over<S: Start, Q: Scripts, R: Read, W: Write>(
+pub(crate) fn run_over<S: Start + Copy, Q: Scripts, R: Read, W: Write>(
     alloc: Global,
     stores: &mut StoreFiles<'_, S>,
     scripts: &Q,
-    asked: &Asked,
-    input: &mut R,
+    asked: &Request,
+    input: &mut Tracked<R>,
     reporter: &mut Reporter<W>,
 ) -> Result<u8, RunFault>
     requires unused { IsUnused reporter.old }
     requires unopened { stores.old.end ≡ Unopened }
-    ensures ran { RunsAsked ⟦<Filed<S> as Store>⟧ W.contents
+    ensures ran { RunsAsked ⟦<Filed<S> as Store>⟧ AnyFile W.contents
         (filing (image_at S.Start) stores.new.end)
-        (Q.content scripts.now) R.remaining asked.now
+        (Q.content scripts.now) (λ unread. R.remaining unread.inner)
+        (λ unread. unread.has_failed) asked.now
         reporter.old input.old result reporter.new input.new }
     ensures low { reporter.old.worst ≤ 3 → IfOk result (λ status. status ≤ 3) }
 {
     let name = asked.store.as_str();
-    let connection = stores.open_store(name, true)?;
-    match run_opened::<Filed<S>, Q, R, W>(alloc, connection, scripts, asked, input, reporter) {
+    let connection = stores.open_store(name, true, asked.wait)?;
+    let ran = run_opened::<Filed<S>, HostRuntime, Q, R, W>(
+        alloc, connection, stores.rt, scripts, asked, input, reporter,
+    );
+    match ran {
         Ok((ended, connection)) => {
             end_over(stores, name, reporter, ended, connection)?;
             Ok(reporter.worst)

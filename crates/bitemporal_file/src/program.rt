@@ -6,20 +6,25 @@ ghost use Rattle.sqlite_wal.specs.Files.{image_at};
 ghost use Rattle.command_line.specs.CommandFaults.{IsShown};
 ghost use Rattle.command_line.specs.declared.command.CommandFault.{CommandFault};
 ghost use Rattle.command_line.specs.declared.fault.RunFault.{RunFault};
-ghost use Rattle.command_line.specs.declared.file_command.Asked.{Asked};
+ghost use Rattle.command_line.specs.declared.file_command.Request.{Request};
+ghost use Rattle.bitemporal_file.specs.Copies.{AnyFile};
 ghost use Rattle.bitemporal_file.specs.Program.{AskNothingFor, ExitsAs, IsAskedBy, last_component};
 ghost use Rattle.bitemporal_file.specs.Program.{names_program};
+ghost use Rattle.bitemporal_file.specs.ReadOnly.{AreHeldBy, DoesAskedReading, reading};
 ghost use Rattle.bitemporal_file.specs.Reporting.{IsUnused};
 ghost use Rattle.bitemporal_file.specs.declared.stores.StoreEnd.TheVariants.{Unopened};
 ghost use Rattle.bitemporal_file.specs.StoreFiles.{filing};
-ghost use Rattle.bitemporal_file.specs.StoreRuns.{Lists, RunsAsked};
+ghost use Rattle.bitemporal_file.specs.StoreRuns.{DoesAsked, Inspects};
 
-use crate::listing::list_store;
+use crate::inspections::{Inspection, inspect_store, inspection_of};
 use crate::over::{end_over, run_over};
+use crate::places::Places;
+use crate::read_only::{Held, read_asked};
 use crate::reporter::Reporter;
 use crate::stores::{Filed, StoreFiles};
-use command_line::{Asked, ProgramName, RunFault, Scripts, Tracked, asked_by, end_in, show};
+use command_line::{ProgramName, Request, RunFault, Scripts, Tracked, end_in, parse_request, show};
 use sqlite::Start;
+use sqlite_disk::{Disk, Memory};
 use sqlite_trees::store::Store;
 use std::alloc::Global;
 use std::io::{Read, Write};
@@ -50,24 +55,25 @@ pub fn is_called(words: &[String]) -> bool
     }
 }
 
-// Lists the tables of the store. Gives the exit status.
-fn list_asked<S: Start, W: Write>(
+// Tells what is asked of the store. Gives the exit status.
+fn inspect_asked<S: Start + Copy, W: Write>(
     alloc: Global,
     stores: &mut StoreFiles<'_, S>,
-    asked: &Asked,
+    asked: &Request,
+    inspection: Inspection,
     reporter: &mut Reporter<W>,
 ) -> Result<u8, RunFault>
     requires unused { IsUnused reporter.old }
     requires unopened { stores.old.end ≡ Unopened }
-    ensures lists { Lists ⟦<Filed<S> as Store>⟧ (filing (image_at S.Start) stores.new.end)
-        reporter.old result reporter.new }
+    ensures inspects { Inspects ⟦<Filed<S> as Store>⟧ W.contents
+        (filing (image_at S.Start) stores.new.end) inspection reporter.old result reporter.new }
     ensures low { IfOk result (λ status. status ≤ 3) }
 {
     let name = asked.store.as_str();
-    let connection = stores.open_store(name, false)?;
-    match list_store(alloc, connection, &mut reporter.out) {
-        Ok((listed, connection)) => {
-            end_over(stores, name, reporter, listed, connection)?;
+    let connection = stores.open_store(name, false, asked.wait)?;
+    match inspect_store(alloc, connection, inspection, &mut reporter.out) {
+        Ok((told, connection)) => {
+            end_over(stores, name, reporter, told, connection)?;
             Ok(0)
         }
         Err((refusal, connection)) => {
@@ -77,39 +83,47 @@ fn list_asked<S: Start, W: Write>(
     }
 }
 
-// Lists the tables, or runs what is asked for. Gives the exit status.
-fn run_asked<S: Start, Q: Scripts, R: Read, W: Write>(
+// Tells what is asked of the store, or runs what is asked for. Gives the exit status.
+fn run_asked<S: Start + Copy, Q: Scripts + Places, R: Read, W: Write>(
     alloc: Global,
     stores: &mut StoreFiles<'_, S>,
     scripts: &Q,
-    asked: &Asked,
+    asked: &Request,
     input: &mut Tracked<R>,
     reporter: &mut Reporter<W>,
 ) -> Result<u8, RunFault>
     requires unused { IsUnused reporter.old }
     requires unopened { stores.old.end ≡ Unopened }
-    ensures listed { asked.now.lists ≡ true
-        → Lists ⟦<Filed<S> as Store>⟧ (filing (image_at S.Start) stores.new.end)
-        reporter.old result reporter.new × (input.new ≡ input.old) }
-    ensures ran { asked.now.lists ≡ false
-        → RunsAsked ⟦<Filed<S> as Store>⟧ W.contents (filing (image_at S.Start) stores.new.end)
-        (Q.content scripts.now) (λ unread. R.remaining unread.inner) asked.now
-        (record reporter.old { stops = asked.now.stops }) input.old
+    ensures done { asked.now.reads_only ≡ false
+        → DoesAsked ⟦<Filed<S> as Store>⟧ AnyFile W.contents
+        (filing (image_at S.Start) stores.new.end) (Q.content scripts.now)
+        (λ unread. R.remaining unread.inner) (λ unread. unread.has_failed) asked.now
+        reporter.old input.old
         result reporter.new input.new }
+    ensures read { asked.now.reads_only ≡ true
+        → DoesAskedReading ⟦<Held as Store>⟧ AnyFile W.contents (reading ⟦<Memory as Disk>⟧
+        (AreHeldBy (Q.leads_to scripts.now (string_bytes asked.now.store))
+        (Q.content scripts.now) (Q.may_lack scripts.now))) (Q.content scripts.now)
+        (λ unread. R.remaining unread.inner) (λ unread. unread.has_failed) asked.now
+        reporter.old input.old
+        result reporter.new input.new × (stores.new ≡ stores.old) }
     ensures low { reporter.old.worst ≤ 3 → IfOk result (λ status. status ≤ 3) }
 {
-    if asked.lists {
-        return list_asked::<S, W>(alloc, stores, asked, reporter);
+    if asked.reads_only {
+        return read_asked(stores.rt, alloc, scripts, asked, input, reporter);
+    }
+    if let Some(inspection) = inspection_of(asked) {
+        return inspect_asked::<S, W>(alloc, stores, asked, inspection, reporter);
     }
     reporter.stops = asked.stops;
-    run_over::<S, Q, Tracked<R>, W>(alloc, stores, scripts, asked, input, reporter)
+    run_over::<S, Q, R, W>(alloc, stores, scripts, asked, input, reporter)
 }
 
 /// Does what the words ask for: runs scripts over the store that they name, those in files or a
 /// session of `input`, and reports each statement as soon as it is done; or lists the store's
-/// tables; or shows help or the version. Gives the exit status: 0 to 3 as `bitemporal` does, for
-/// all scripts together. With 2 `err` gets a text that says why.
-pub fn run_file_program<S: Start, Q: Scripts, R: Read, W: Write, E: Write>(
+/// tables, or verifies the store; or shows help or the version. Gives the exit status: 0 to 3 as
+/// `bitemporal` does, for all scripts together. With 2 `err` gets a text that says why.
+pub fn run_file_program<S: Start + Copy, Q: Scripts + Places, R: Read, W: Write, E: Write>(
     alloc: Global,
     words: &[String],
     stores: &mut StoreFiles<'_, S>,
@@ -126,27 +140,34 @@ pub fn run_file_program<S: Start, Q: Scripts, R: Read, W: Write, E: Write>(
     // nothing. Or it does what they ask for. A run of scripts is from whatever history the store
     // stood for: all results are of that run, the report is theirs, and the store stands for the
     // history to which they led: so it is for the next run. What others have in its database stays.
-    // Where the tables are listed no statement is reported, no input is read, and the history is
-    // the same.
+    // If the tables are listed or the store is verified, the output gets what is told of the
+    // history that the store represents, no statement is reported, no input is read, and the
+    // history is the same. With --read-only all that is over a database in memory, which the bytes
+    // of the store's files hold: no store is opened in its files.
     ensures runs { ((fault : CommandFault) × AskNothingFor (map string_bytes words.now) fault
         × IsShown ProgramName.BitemporalFile fault result
         (W.contents report.old.out) (W.contents report.new.out) err.new.has_failed
         (E.contents err.old.inner) (E.contents err.new.inner)
         × (stores.new ≡ stores.old) × (input.new ≡ input.old)
         × (report.new ≡ record report.old { out = report.new.out }))
-        ⊎ ((asked : Asked) × IsAskedBy (map string_bytes words.now) asked
+        ⊎ ((asked : Request) × IsAskedBy (map string_bytes words.now) asked
         × (ended : Result ℕ RunFault) × ExitsAs ended result err.new.has_failed
         (E.contents err.old.inner) (E.contents err.new.inner)
-        × (asked.lists ≡ true
-        → Lists ⟦<Filed<S> as Store>⟧ (filing (image_at S.Start) stores.new.end)
-        report.old ended report.new × (input.new ≡ input.old))
-        × (asked.lists ≡ false
-        → RunsAsked ⟦<Filed<S> as Store>⟧ W.contents (filing (image_at S.Start) stores.new.end)
-        (Q.content scripts.now) (λ unread. R.remaining unread.inner) asked
-        (record report.old { stops = asked.stops }) input.old ended report.new input.new)) }
+        × (asked.reads_only ≡ false
+        → DoesAsked ⟦<Filed<S> as Store>⟧ AnyFile W.contents
+        (filing (image_at S.Start) stores.new.end) (Q.content scripts.now)
+        (λ unread. R.remaining unread.inner) (λ unread. unread.has_failed) asked report.old
+        input.old ended report.new input.new)
+        × (asked.reads_only ≡ true
+        → DoesAskedReading ⟦<Held as Store>⟧ AnyFile W.contents (reading ⟦<Memory as Disk>⟧
+        (AreHeldBy (Q.leads_to scripts.now (string_bytes asked.store))
+        (Q.content scripts.now) (Q.may_lack scripts.now)))
+        (Q.content scripts.now) (λ unread. R.remaining unread.inner)
+        (λ unread. unread.has_failed) asked report.old input.old
+        ended report.new input.new × (stores.new ≡ stores.old))) }
 {
     let program = ProgramName::BitemporalFile;
-    let asked = match asked_by(alloc, words) {
+    let asked = match parse_request(alloc, words) {
         Ok(asked) => asked,
         Err(fault) => return show(alloc, program, &fault, &mut report.out, err),
     };

@@ -1,33 +1,36 @@
-//! What writes the report of a run as it goes: the records of a statement as soon as it is done.
+//! The writer of a run's report as it goes: the records of a statement as soon as it is done.
 
-ghost use Rattle.std.specs.Prelude.{◌≡◌, ◌≤◌, ◌+◌, ℕ, Err, IfErr, List, OnOk};
+ghost use Rattle.std.specs.Prelude.{◌≡◌, ◌≤◌, ◌+◌, ℕ, Err, IfErr, IfSome, IsSome, List, None};
+ghost use Rattle.std.specs.Prelude.{OnOk, false, true};
 ghost use Rattle.std.specs.Io.KnownBytes.{Appends};
 ghost use Rattle.period_core.specs.declared.refusal.Refusal.{Refusal};
 ghost use Rattle.statement_reports.specs.AuditedReport.{entry_text};
 ghost use Rattle.statement_reports.specs.Report.{text_of};
-ghost use Rattle.bitemporal_file.specs.Reporting.{IsReportFault, IsUnused, Tells, entry_status};
-ghost use Rattle.bitemporal_file.specs.Reporting.{refused_entry, result_status};
+ghost use Rattle.bitemporal_file.specs.Reporting.{IsReportFault, IsUnused};
+ghost use Rattle.bitemporal_file.specs.Reporting.{ReceivesResult, entry_status};
+ghost use Rattle.bitemporal_file.specs.Reporting.{refused_entry, result_status, timed_refusal};
+ghost use Rattle.script_engine.specs.declared.script.timed.Timed.{Timed as TimedModel};
 
 use command_line::{RunFault, has_failed};
-use period_core::Refusal;
+use period_core::{Moment, Refusal};
 use script_engine::{
-    Entry, Listener, Outcome, ReportFault, write_audited_statement, write_statement,
+    Entry, Listener, Outcome, ReportFault, Timed, write_audited_statement, write_statement,
 };
 use std::alloc::Global;
 use std::io::Write;
 
-/// What is reported of a statement.
+/// A value that is reported of a statement.
 pub(crate) trait Reported {
-    /// Its records as the statement of a number.
+    /// The records of the statement of a number.
     ghost text: { ℕ → Self → List ℕ };
 
     /// The exit status for its sake.
     ghost status_of: { Self → ℕ };
 
-    /// What is reported of a statement that is refused as it is read.
+    /// The value that is reported of a statement that is refused as it is read.
     ghost refused: { Refusal → Self };
 
-    /// Writes its records, as those of the statement of this number.
+    /// Writes its records, under the number of its statement.
     fn write_records<W: Write>(
         &self,
         alloc: Global,
@@ -107,6 +110,34 @@ impl Reported for Entry {
     }
 }
 
+impl<K: Reported> Reported for Timed<K> {
+    ghost text = { λ number (timed : TimedModel K). K.text number timed.kept };
+
+    ghost status_of = { λ (timed : TimedModel K). K.status_of timed.kept };
+
+    ghost refused = { timed_refusal K.refused };
+
+    fn write_records<W: Write>(
+        &self,
+        alloc: Global,
+        out: &mut W,
+        number: u64,
+    ) -> Result<(), ReportFault> {
+        self.kept.write_records(alloc, out, number)
+    }
+
+    fn status(&self) -> u8 {
+        self.kept.status()
+    }
+
+    fn of_refusal(refusal: Refusal) -> Timed<K> {
+        Timed {
+            time: Moment::first(),
+            kept: K::of_refusal(refusal),
+        }
+    }
+}
+
 /// A report that is written as the run goes, and what the run has come to.
 #[derive(Drop)]
 pub struct Reporter<W> {
@@ -120,7 +151,7 @@ pub struct Reporter<W> {
     pub(crate) worst: u8,
     /// Why records were not written.
     pub(crate) fault: Option<RunFault>,
-    /// It has received no result yet.
+    /// No result was received yet.
     pub(crate) is_unused: bool,
 }
 
@@ -166,9 +197,49 @@ impl<W: Write> Reporter<W> {
     }
 }
 
+impl<W: Write> Reporter<W> {
+    // Writes a text, and has it flushed.
+    fn write_text(&mut self, text: &[u8]) -> Result<(), RunFault>
+        ensures written { OnOk result
+            (Appends (W.contents self.old.out) (W.contents self.new.out) text.now) }
+        ensures fault { IfErr result IsReportFault }
+        ensures same { self.new ≡ record self.old { out = self.new.out } }
+    {
+        match self.out.write_all(text) {
+            Ok(()) => match self.out.flush() {
+                Ok(()) => Ok(()),
+                Err(_) => Err(RunFault::Write),
+            },
+            Err(_) => Err(RunFault::Write),
+        }
+    }
+
+    /// Writes what is told of a command; nothing where there is no memory for it. Keeps the fault,
+    /// and says whether there is none.
+    pub(crate) fn tell(&mut self, text: Option<&[u8]>) -> bool
+        requires { self.old.fault ≡ None }
+        ensures written { result ≡ true → IfSome text.entry (λ bytes.
+            Appends (W.contents self.old.out) (W.contents self.new.out) bytes.now) }
+        ensures some { result ≡ true → IsSome text.entry × (self.new.fault ≡ None) }
+        ensures fault { result ≡ false → IsSome self.new.fault
+            × IfSome self.new.fault IsReportFault }
+        ensures same { self.new ≡ record self.old { out = self.new.out; fault = self.new.fault } }
+    {
+        let Some(bytes) = text else {
+            self.fault = Some(RunFault::Memory);
+            return false;
+        };
+        match self.write_text(bytes) {
+            Ok(()) => return true,
+            Err(cause) => self.fault = Some(cause),
+        }
+        false
+    }
+}
+
 impl<W: Write, K: Reported + Drop> Listener<K> for Reporter<W> {
     ghost hears = { λ old _ kept goes_on new.
-        Tells W.contents K.text K.status_of old kept goes_on new };
+        ReceivesResult W.contents K.text K.status_of old kept goes_on new };
 
     fn hear(&mut self, _number: u64, kept: K) -> bool {
         self.is_unused = false;

@@ -5,10 +5,10 @@ ghost use Rattle.std.specs.String.{string_bytes};
 ghost use Rattle.version_store.specs.StoreState.{IsUsable, SparesOthers};
 ghost use Rattle.history_model.specs.Histories.{History};
 ghost use Rattle.script_engine.specs.engine.Stored.{EngineRepresents, RepresentsSome, WasUsable};
-ghost use Rattle.script_engine.specs.script.Script.{KeptStepOver};
 ghost use Rattle.bitemporal_file.specs.ScriptRuns.{AreOfReaders, AreRun, Ends, LeadsTo, ScriptRun};
 
 use crate::reporter::{Reported, Reporter};
+use crate::system::System;
 use command_line::{RunFault, Scripts, Tracked, read_script};
 use period_core::Refusal;
 use script_engine::{Engine, MOST_BYTES, PieceResult, run_over};
@@ -17,9 +17,10 @@ use std::alloc::Global;
 use std::io::{Read, Write};
 
 // Runs the script that a reader has, and reports it. Says whether the run came to its end.
-fn run_script<S: Alter, K: PieceResult<S> + Reported + Drop, R: Read, W: Write>(
+fn run_script<S: Alter, K: PieceResult<S> + Reported + Drop, C: System, R: Read, W: Write>(
     alloc: Global,
     engine: &mut Engine<S>,
+    system: &C,
     input: &mut Tracked<R>,
     reporter: &mut Reporter<W>,
 ) -> Result<bool, RunFault>
@@ -29,7 +30,7 @@ fn run_script<S: Alter, K: PieceResult<S> + Reported + Drop, R: Read, W: Write>(
         × AreRun runs result reporter.new.fault
         × Ends W.contents K.text K.status_of (R.remaining input.old.inner ∷ [])
         reporter.old runs result reporter.new
-        × LeadsTo (KeptStepOver S.Store K.result_of) engine.old runs engine.new
+        × LeadsTo K.is_step_over engine.old runs engine.new
         × (IsUsable S.Store engine.new.connection
         → (history : History) → EngineRepresents S.Store history engine.old
         → RepresentsSome S.Store (LeadsTo K.is_step history runs) engine.new) }
@@ -38,7 +39,7 @@ fn run_script<S: Alter, K: PieceResult<S> + Reported + Drop, R: Read, W: Write>(
 {
     reporter.next = 1;
     let script = read_script(alloc, input, MOST_BYTES)?;
-    match run_over::<S, K, Reporter<W>>(alloc, engine, script.as_slice(), reporter) {
+    match run_over::<S, K, C, Reporter<W>>(alloc, engine, system, script.as_slice(), reporter) {
         Ok(goes_on) => match reporter.fault {
             Some(fault) => Err(fault),
             None => Ok(goes_on),
@@ -48,9 +49,10 @@ fn run_script<S: Alter, K: PieceResult<S> + Reported + Drop, R: Read, W: Write>(
 }
 
 // Runs the script that is named.
-fn run_named<S: Alter, K: PieceResult<S> + Reported + Drop, Q: Scripts, W: Write>(
+fn run_named<S: Alter, K: PieceResult<S> + Reported + Drop, C: System, Q: Scripts, W: Write>(
     alloc: Global,
     engine: &mut Engine<S>,
+    system: &C,
     scripts: &Q,
     name: &str,
     reporter: &mut Reporter<W>,
@@ -61,7 +63,7 @@ fn run_named<S: Alter, K: PieceResult<S> + Reported + Drop, Q: Scripts, W: Write
         × AreRun runs result reporter.new.fault
         × Ends W.contents K.text K.status_of (Q.content scripts.now name.now ∷ [])
         reporter.old runs result reporter.new
-        × LeadsTo (KeptStepOver S.Store K.result_of) engine.old runs engine.new
+        × LeadsTo K.is_step_over engine.old runs engine.new
         × (IsUsable S.Store engine.new.connection
         → (history : History) → EngineRepresents S.Store history engine.old
         → RepresentsSome S.Store (LeadsTo K.is_step history runs) engine.new) }
@@ -71,16 +73,23 @@ fn run_named<S: Alter, K: PieceResult<S> + Reported + Drop, Q: Scripts, W: Write
     match scripts.open_script(name) {
         Ok(script) => {
             let mut file = Tracked::new(script);
-            run_script::<S, K, Q::Script, W>(alloc, engine, &mut file, reporter)
+            run_script::<S, K, C, Q::Script, W>(alloc, engine, system, &mut file, reporter)
         }
         Err(_) => Err(RunFault::Read),
     }
 }
 
 /// Runs the scripts that are named, in order. Says whether all came to their ends.
-pub(crate) fn run_all<S: Alter, K: PieceResult<S> + Reported + Drop, Q: Scripts, W: Write>(
+pub(crate) fn run_all<
+    S: Alter,
+    K: PieceResult<S> + Reported + Drop,
+    C: System,
+    Q: Scripts,
+    W: Write,
+>(
     alloc: Global,
     engine: &mut Engine<S>,
+    system: &C,
     scripts: &Q,
     names: &[String],
     reporter: &mut Reporter<W>,
@@ -90,7 +99,7 @@ pub(crate) fn run_all<S: Alter, K: PieceResult<S> + Reported + Drop, Q: Scripts,
         (runs : List (ScriptRun K)) × AreOfReaders readers runs
         × AreRun runs result reporter.new.fault
         × Ends W.contents K.text K.status_of readers reporter.old runs result reporter.new
-        × LeadsTo (KeptStepOver S.Store K.result_of) engine.old runs engine.new
+        × LeadsTo K.is_step_over engine.old runs engine.new
         × (IsUsable S.Store engine.new.connection
         → (history : History) → EngineRepresents S.Store history engine.old
         → RepresentsSome S.Store (LeadsTo K.is_step history runs) engine.new) }
@@ -98,7 +107,14 @@ pub(crate) fn run_all<S: Alter, K: PieceResult<S> + Reported + Drop, Q: Scripts,
     ensures others { SparesOthers S.Store engine.old.connection engine.new.connection }
 {
     for name in names {
-        let goes_on = run_named::<S, K, Q, W>(alloc, engine, scripts, name.as_str(), reporter)?;
+        let goes_on = run_named::<S, K, C, Q, W>(
+            alloc,
+            engine,
+            system,
+            scripts,
+            name.as_str(),
+            reporter,
+        )?;
         if !goes_on {
             return Ok(false);
         }

@@ -1,32 +1,49 @@
-//! Where the stores of a command line are: the database files that their names open.
+//! The stores of a command line: the database files that their names open.
 
 ghost use Rattle.std.specs.Prelude.{◌≡◌, IfErr, IfOk, OnOk, false, true};
 ghost use Rattle.sqlite_wal.specs.Files.{image_at};
 ghost use Rattle.bitemporal_file.specs.declared.stores.StoreEnd.TheVariants.{Unopened};
 ghost use Rattle.bitemporal_file.specs.StoreFiles.{FailsToOpen, Finds, IsInFiles, IsLeftAs};
-ghost use Rattle.bitemporal_file.specs.StoreFiles.{IsUnclosedFor, closing_told, fault_told};
+ghost use Rattle.bitemporal_file.specs.StoreFiles.{IsUnclosedFor, fault_for, fault_for_closing};
 
 use crate::reporter::Reporter;
 use command_line::RunFault;
 use period_core::Refusal;
 use sqlite::{Connection, Error, ErrorCode, FileFrom, FileStore, Files, Leftover, Start};
 use sqlite_disk::Disk;
-use std::fs;
 use std::io::ErrorKind;
 use std::mem::ManuallyDrop;
+use std::time::Duration;
+use std::{fs, thread};
 
-// Which files of a store are there.
+// The number of tries in a second, as another program has a database open.
+const TRIES_PER_SECOND: u64 = 20;
+
+// Between two tries: 50 ms.
+const PAUSE_MILLIS: u64 = 50;
+
+/// The time between two tries.
+pub(crate) fn pause() -> Duration {
+    Duration::from_millis(PAUSE_MILLIS)
+}
+
+/// The number of tries in so many seconds, but for the last one.
+pub(crate) fn tries_in(seconds: u32) -> u64 {
+    u64::from(seconds) * TRIES_PER_SECOND
+}
+
+// The files of a store that exist.
 #[derive(Clone, Copy)]
 struct Present {
     // The file itself.
     store: bool,
-    // The log beside it.
+    // The log next to it.
     log: bool,
 }
 
-// Why a database did not open.
-fn fault_of(error: Error) -> RunFault
-    ensures { result ≡ fault_told error }
+/// Why a database did not open.
+pub(crate) fn fault_of(error: Error) -> RunFault
+    ensures { result ≡ fault_for error }
 {
     match error {
         Error::SqliteFailure(ErrorCode::DatabaseBusy) => RunFault::Locked,
@@ -39,9 +56,9 @@ fn fault_of(error: Error) -> RunFault
     }
 }
 
-// Why a connection was not closed.
-fn closing_fault(error: Error) -> RunFault
-    ensures { result ≡ closing_told error }
+/// Why a connection was not closed.
+pub(crate) fn closing_fault(error: Error) -> RunFault
+    ensures { result ≡ fault_for_closing error }
 {
     match error {
         Error::SqliteFailure(ErrorCode::OutOfMemory) => RunFault::Memory,
@@ -49,7 +66,7 @@ fn closing_fault(error: Error) -> RunFault
     }
 }
 
-// Whether a file is there. Where the system does not say, it is taken for one.
+// Whether a file exists. If the system does not say, it is taken for one.
 fn is_there(rt: &HostRuntime, path: &str) -> bool {
     match fs::symlink_metadata(rt, path) {
         Ok(_) => true,
@@ -57,7 +74,7 @@ fn is_there(rt: &HostRuntime, path: &str) -> bool {
     }
 }
 
-// Where the store's file is: where a link leads that has its name. The log is beside it.
+// The place of the store's file: that to which a link of its name leads. The log is next to it.
 fn place_of(rt: &HostRuntime, name: &str) -> Option<(String, String)> {
     let place = match fs::canonicalize(rt, name) {
         Ok(path) => String::from_str(rt.alloc(), path.as_str()),
@@ -85,7 +102,14 @@ fn remove_new(rt: &HostRuntime, name: &str, before: Present) {
     }
 }
 
-// Which files of the store of that name are there.
+// Removes the log.
+fn remove_log(rt: &HostRuntime, name: &str) {
+    if let Some((_, log)) = place_of(rt, name) {
+        let _ = fs::remove_file(rt, log.as_str());
+    }
+}
+
+// The files of the store of that name that exist.
 fn files_there(rt: &HostRuntime, name: &str) -> Present {
     match place_of(rt, name) {
         Some((place, log)) => Present {
@@ -134,9 +158,10 @@ impl<D: Disk + Drop> Drop for StoreEnd<D> {
 /// Database files, of which one is opened by its name, and closed or given up. At first they hold
 /// what `S` stands for, whatever that is: a program has `Unknown`.
 #[derive(Drop)]
-pub struct FilesOf<'a, S: Start, D: Disk> {
-    rt: &'a HostRuntime,
-    start: Option<S>,
+pub struct FilesOf<'a, S: Start + Copy, D: Disk> {
+    /// The system, whose files and whose clock they are.
+    pub(crate) rt: &'a HostRuntime,
+    start: S,
     before: Present,
     /// The state in which the files that were opened were left.
     pub(crate) end: StoreEnd<D>,
@@ -145,14 +170,14 @@ pub struct FilesOf<'a, S: Start, D: Disk> {
 /// The database files of the system.
 pub type StoreFiles<'a, S> = FilesOf<'a, S, FileFrom<S>>;
 
-impl<'a, S: Start> FilesOf<'a, S, FileFrom<S>> {
+impl<'a, S: Start + Copy> FilesOf<'a, S, FileFrom<S>> {
     /// The files of the system, of which none is open.
     pub fn new(rt: &'a HostRuntime, start: S) -> StoreFiles<'a, S>
         ensures { result.end ≡ Unopened }
     {
         FilesOf {
             rt,
-            start: Some(start),
+            start,
             before: Present {
                 store: true,
                 log: true,
@@ -162,14 +187,9 @@ impl<'a, S: Start> FilesOf<'a, S, FileFrom<S>> {
     }
 }
 
-impl<S: Start> FilesOf<'_, S, FileFrom<S>> {
-    /// A connection to the database of that name. Where it is not there, it is made, if it may be.
-    /// On `Err` there is no file that was not there before. Only one is ever opened.
-    pub(crate) fn open_store(
-        &mut self,
-        name: &str,
-        may_make: bool,
-    ) -> Result<Connection<Filed<S>>, RunFault>
+impl<S: Start + Copy> FilesOf<'_, S, FileFrom<S>> {
+    // Opens the database of that name at once, or not.
+    fn open_now(&mut self, name: &str, may_make: bool) -> Result<Connection<Filed<S>>, RunFault>
         requires { self.old.end ≡ Unopened }
         ensures settled { IfOk result (λ connection. connection.in_transaction ≡ false) }
         ensures opened { IfOk result (Finds (image_at S.Start)) }
@@ -179,10 +199,7 @@ impl<S: Start> FilesOf<'_, S, FileFrom<S>> {
         if !may_make && !self.before.store {
             return Err(RunFault::NoStore);
         }
-        let Some(start) = self.start.take() else {
-            return Err(RunFault::NoStore);
-        };
-        match Connection::open_from(self.rt, name, false, start) {
+        match Connection::open_from(self.rt, name, false, self.start) {
             Ok(connection) => {
                 self.end = StoreEnd::Opened;
                 Ok(connection)
@@ -199,6 +216,36 @@ impl<S: Start> FilesOf<'_, S, FileFrom<S>> {
                 Err(fault)
             }
         }
+    }
+
+    // Whether no file was opened.
+    fn is_unopened(&self) -> bool
+        ensures { result ≡ true → self.now.end ≡ Unopened }
+    {
+        matches!(self.end, StoreEnd::Unopened)
+    }
+
+    /// A connection to the database of that name. If it is missing, it is made, if it may be.
+    /// While another program has it, that is tried again, for so many seconds. On `Err` there is no
+    /// file that was not there before. Only one is ever opened.
+    pub(crate) fn open_store(
+        &mut self,
+        name: &str,
+        may_make: bool,
+        seconds: u32,
+    ) -> Result<Connection<Filed<S>>, RunFault>
+        requires { self.old.end ≡ Unopened }
+        ensures settled { IfOk result (λ connection. connection.in_transaction ≡ false) }
+        ensures opened { IfOk result (Finds (image_at S.Start)) }
+        ensures refused { IfErr result (FailsToOpen (image_at S.Start) self.new.end) }
+    {
+        'tries: for _ in 0..tries_in(seconds) {
+            match self.open_now(name, may_make) {
+                Err(RunFault::Locked) if self.is_unopened() => thread::sleep(self.rt, pause()),
+                ended => return ended,
+            }
+        }
+        self.open_now(name, may_make)
     }
 
     /// Whether the database was made as it was opened.
@@ -221,14 +268,20 @@ impl<S: Start> FilesOf<'_, S, FileFrom<S>> {
         remove_new(self.rt, name, self.before);
     }
 
-    /// Closes a connection, with all that is committed in its database file.
-    pub(crate) fn close_store(&mut self, connection: Connection<Filed<S>>) -> Result<(), RunFault>
+    /// Closes a connection, with all that is committed in its database file. The log beside it,
+    /// which then holds nothing, is removed while the files are still locked.
+    pub(crate) fn close_store(
+        &mut self,
+        name: &str,
+        connection: Connection<Filed<S>>,
+    ) -> Result<(), RunFault>
         ensures kept { OnOk result (IsInFiles self.new.end connection) }
         ensures left { IsLeftAs self.new.end connection }
         ensures fault { IfErr result (IsUnclosedFor self.new.end connection) }
     {
         match connection.close_files() {
             Ok(files) => {
+                remove_log(self.rt, name);
                 self.end = StoreEnd::Closed(files);
                 Ok(())
             }

@@ -3,8 +3,6 @@ pub mod judged
 pub mod conditions
 pub mod table
 pub mod create
-pub mod change
 pub mod query
-pub mod stored
 pub mod bytes
 pub mod examples

@@ -1,8 +1,8 @@
 -- The truth of a condition, and of one over a row's values.
 -- Conditions of accepted statements compare values of one kind: numbers, texts by their UTF-8
 -- bytes, days. Over two kinds the order of all values decides.
-use Rattle.std.specs.Prelude.{◌&&◌, ◌||◌, Bool, true, false, not, List, Option, Some, None}
-use Rattle.std.specs.Prelude.{slice_get}
+use Rattle.std.specs.Prelude.{◌&&◌, ◌||◌, ◌++◌, ◌∷◌, [], Bool, true, false, not, List, Option}
+use Rattle.std.specs.Prelude.{None, Some, slice_get}
 use Rattle.std.specs.declared.cmp.Ordering.{Ordering}
 use Rattle.std.specs.Ordering.{is_eq, is_lt, is_gt}
 use Rattle.period_core.specs.Order.{value_cmp}
@@ -19,7 +19,21 @@ use Rattle.catalog_core.specs.declared.condition.Comparand.{Comparand}
 use Rattle.catalog_core.specs.declared.condition.Comparand.TheVariants.{Position, Literal}
 use Rattle.catalog_core.specs.declared.condition.CompareValues.{CompareValues}
 
--- ---- any condition, by the truth of its tests
+-- ---- any condition, by its tests
+
+-- the tests of a condition, in the order of the text
+abbrev mutual
+  pub tests_of : {T : Type 0} → Condition T → List T
+  tests_of (any parts) = tests_among parts
+  tests_of (all parts) = tests_among parts
+  tests_of (negated part) = tests_of part
+  tests_of (test leaf) = leaf ∷ []
+
+  pub tests_among : {T : Type 0} → Conditions T → List T
+  tests_among none = []
+  tests_among (more part parts) = tests_of part ++ tests_among parts
+
+-- ---- a condition's truth, by that of its tests
 
 abbrev mutual
   pub is_satisfied : {T : Type 0} → (T → Bool) → Condition T → Bool
@@ -38,7 +52,7 @@ abbrev mutual
 
 -- ---- a condition over a row's values
 
--- the value of a side in a row, where the row has one at its position
+-- the value of a side in a row, if the row has one at its position
 abbrev pub side_value : Comparand → List Value → Option Value
 side_value (Position position) values = slice_get values position
 side_value (Literal value) values = Some value
@@ -52,7 +66,7 @@ allows LessOrEqual order = not (is_gt order)
 allows Greater order = is_gt order
 allows GreaterOrEqual order = not (is_lt order)
 
--- whether it holds of two sides: never where one has no value
+-- whether it holds of two sides: never if one has no value
 abbrev pub compared : Comparison → Option Value → Option Value → Bool
 compared comparison None right = false
 compared comparison (Some left) None = false
@@ -66,7 +80,7 @@ compares values c = compared c.comparison (side_value c.left values) (side_value
 abbrev pub meets : Tree CompareValues → List Value → Bool
 meets condition values = is_satisfied (compares values) (plain_condition condition)
 
--- the same where a condition may be absent: then it holds of every row
+-- a condition that may be absent: then it holds of every row
 abbrev pub meets_any : Option (Tree CompareValues) → List Value → Bool
 meets_any None values = true
 meets_any (Some condition) values = meets condition values

@@ -5,9 +5,5 @@ pub mod table
 pub mod create
 pub mod change
 pub mod query
-pub mod Flaws
-pub mod Positions
-pub mod Placing
-pub mod SystemWindows
 pub mod stored
 pub mod bytes

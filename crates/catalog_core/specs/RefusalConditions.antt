@@ -12,7 +12,7 @@ abbrev pub Holds : List RefusalCondition → Refusal → Type 0
 Holds [] refusal = ⊥
 Holds ((judged, holds) ∷ more) refusal = ((judged ≡ refusal) × IsTrue holds) ⊎ Holds more refusal
 
--- the first whose condition holds: the least, where the numbers ascend
+-- the first whose condition holds: the least, if the numbers ascend
 abbrev pub first_holding : List RefusalCondition → Option Refusal
 first_holding [] = None
 first_holding ((judged, holds) ∷ more) = cond holds (Some judged) (first_holding more)

@@ -1,4 +1,1 @@
-pub mod Insertion
-pub mod PortionChanges
-pub mod Resolution
-pub mod InsertPlaces
+pub mod EmptyRows

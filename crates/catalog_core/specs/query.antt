@@ -1,10 +1,3 @@
-pub mod Scopes
-pub mod QueryParts
-pub mod Refusals
-pub mod Faults
-pub mod Matched
 pub mod Selection
 pub mod Queries
-pub mod Resolving
-pub mod Places
 pub mod Fitting

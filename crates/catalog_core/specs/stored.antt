@@ -1,3 +1,1 @@
 pub mod StoredAnswers
-pub mod StoredQueries
-pub mod StoredPlacing

@@ -1,14 +1,5 @@
 //! Changes with positions in place of names.
 
-pub mod insert_names;
-pub mod insert_places;
-pub mod insert_values;
-pub mod inserted_rows;
-pub mod insertion;
-pub mod portion_changes;
-pub mod resolution;
-pub mod row_positions;
-
 use crate::condition::Cond;
 use period_core::{Day, Items, Period, PeriodRow, Value, Values, VersionRow};
 
@@ -28,7 +19,7 @@ pub struct Assignment {
     pub value: Value,
 }
 
-/// What a change does. Without a portion it acts on every day, without a condition on every row.
+/// A change of a table. Without a portion it acts on every day, without a condition on every row.
 #[derive(Drop)]
 pub enum Action {
     /// Adds the rows.
@@ -46,7 +37,7 @@ pub struct Change {
     pub action: Action,
 }
 
-/// What a change does to the rows of a table.
+/// The action of a change on the rows of a table.
 #[derive(Drop)]
 pub struct Plan {
     /// The rows that end: each is identified by its values, period start and system start.

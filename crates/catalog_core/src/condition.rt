@@ -40,7 +40,7 @@ pub fn is_allowed(comparison: Comparison, order: Ordering) -> bool
     }
 }
 
-/// The value of a side in a row: `None` where the row has none at its position.
+/// The value of a side in a row: `None` if the row has none at its position.
 fn value_of<'a>(side: &'a Comparand, values: &'a [Value]) -> Option<&'a Value>
     ensures { option_copied result ≡ side_value side.now values.now }
 {

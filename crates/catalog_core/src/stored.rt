@@ -6,14 +6,11 @@ ghost use Rattle.catalog_core.specs.Conditions.{is_satisfied};
 ghost use Rattle.catalog_core.specs.stored.StoredAnswers.{is_shown, passes_test, relates};
 ghost use Rattle.catalog_core.specs.stored.StoredAnswers.{side_period};
 
-pub mod conditions;
-pub mod resolution;
-
 use crate::condition::{CompareValues, compares};
 use period_core::{Day, Period, VersionRow, Window};
 use sql_statements::{PeriodPredicate, Tree};
 
-/// A side of a period predicate: the version's own period, or that of a literal.
+/// A side of a period predicate: the version's own period, or a literal's.
 #[derive(Clone, Copy)]
 pub enum PeriodSide {
     Row,

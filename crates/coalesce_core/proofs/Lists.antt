@@ -1,4 +1,4 @@
--- Pairs of a list by the pairs of its parts.
+-- Pairs of the elements of a list, by the pairs of its parts.
 use Rattle.std.proofs.Common.{ℕ, zero, suc, ◌<◌, List, [], ◌∷◌, ◌++◌, length, get_or, arith}
 use Rattle.std.specs.List.{Contains, AllPairs}
 use Rattle.std.proofs.lemmas.List.Elements.{Contains-append_left, Contains-get_or}

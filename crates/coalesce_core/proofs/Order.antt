@@ -1,19 +1,19 @@
 -- The order of answer rows: it is total, and what it says of rows of the same values.
-use Rattle.std.proofs.Common.{◌≡◌, ◌<ℤ◌, ◌≤ℤ◌, false, true, refl, sym, ◌∙◌, ap, subst, arith, List, Ordering, get_or}
+use Rattle.std.proofs.Common.{◌≡◌, ◌<ℤ◌, ◌≤ℤ◌, ℕ, zero, suc, ◌+◌, ◌<◌, ◌≤◌, false, true, refl, sym, ◌∙◌, ap, subst, inl, inr, arith, List, Ordering, get_or, length, add-one}
 use Rattle.std.specs.List.{AllPairs}
 use Rattle.std.specs.List.Sorted.{IsSorted}
 use Rattle.std.proofs.lemmas.List.Sorted.{sorted_far, ranks_by}
 use Rattle.std.specs.declared.cmp.Ordering.TheVariants.{Less, Equal, Greater}
-use Rattle.std.specs.Cmp.{IsTotalOrder}
+use Rattle.std.specs.Cmp.{IsStrictWeakOrder}
 use Rattle.std.specs.Ordering.{int_cmp, is_lt, is_gt, ordering_then, ordering_reverse}
-use Rattle.std.proofs.lemmas.Cmp.{then_total, on_total, int_cmp_total}
+use Rattle.std.proofs.lemmas.Bool.{cases_lt}
 use Rattle.std.proofs.lemmas.Int.{ints, by_lt_z}
-use Rattle.period_core.specs.Order.{values_cmp, row_cmp}
+use Rattle.period_core.specs.Order.{values_cmp}
 use Rattle.period_core.specs.OrderLaws.{values_cmp_total, values_cmp-same, values_cmp-refl}
 use Rattle.period_core.specs.declared.row.PeriodRow.{PeriodRow}
 use Rattle.temporal_model.specs.Answer.{answer_cmp}
 use Rattle.temporal_model.proofs.AnswerOrder.{answer_cmp_total, answer_cmp-same, int_cmp-Less}
-use Rattle.coalesce_core.specs.Coalesced.{PrecedesWithGap, NotAfter}
+use Rattle.coalesce_core.specs.Coalesced.{PrecedesWithGap, IsCoalesced, NotAfter}
 
 -- a row that does not come after one of the same values begins no later
 pub NotAfter-start : (a b : PeriodRow) → a.values ≡ b.values → NotAfter a b → a.period.start ≤ℤ b.period.start
@@ -28,11 +28,11 @@ is_lt-reverse Less = refl
 is_lt-reverse Equal = refl
 is_lt-reverse Greater = refl
 
--- the same test with the rows in their order
+-- the test with its rows changed over
 pub flip : (a b : PeriodRow) → is_lt (answer_cmp b a) ≡ is_gt (answer_cmp a b)
 flip a b = ap is_lt (answer_cmp_total.antisymm b a) ∙ is_lt-reverse (answer_cmp a b)
 
--- what does not come after a row does so of one of the same values and first day
+-- a row that does not come after another, nor after one of the same values and first day
 pub NotAfter-same_start :
     (a b c : PeriodRow) → a.values ≡ b.values → a.period.start ≡ b.period.start → NotAfter a c
     → NotAfter b c
@@ -45,6 +45,13 @@ PrecedesWithGap-gap a b e gap =
     let first : a.period.start <ℤ a.period.end = a.period.ordered in
     let less : a.period.start <ℤ b.period.start = omega (arith, ints) in
     (answer_cmp-same a b e ∙ int_cmp-Less a.period.start b.period.start less, λ _. gap)
+
+-- a row of lesser values
+pub PrecedesWithGap-less : (a b : PeriodRow) → values_cmp a.values b.values ≡ Less → PrecedesWithGap a b
+PrecedesWithGap-less a b e = (
+  ap (λ o. ordering_then o (int_cmp a.period.start b.period.start)) e,
+  λ v. absurd (let tie : values_cmp a.values b.values ≡ Equal = subst (λ vs. values_cmp a.values vs ≡ Equal) v (values_cmp-refl a.values) in cc),
+)
 
 -- rows of different values
 pub PrecedesWithGap-other : (a b : PeriodRow) → (a.values ≡ b.values → ⊥) → NotAfter a b → PrecedesWithGap a b
@@ -75,7 +82,7 @@ PrecedesWithGap-trans a b c p q = (
       ] refl,
 )
 
--- what lies behind b, by b's values or from b's first day on, lies behind what precedes b
+-- a row behind b, by b's values or from b's first day on, lies behind each row that precedes b
 pub PrecedesWithGap-later :
     (a b c : PeriodRow) → PrecedesWithGap a b → b.values ≡ c.values
     → b.period.start ≤ℤ c.period.start → PrecedesWithGap a c
@@ -92,7 +99,7 @@ PrecedesWithGap-later a b c p same later =
           let before : answer_cmp a b ≡ Less = p.0 in cc)
     ] refl
 
--- what does not come before b lies behind what precedes b
+-- a row that does not come before b lies behind each row that precedes b
 pub PrecedesWithGap-upto :
     (a b c : PeriodRow) → PrecedesWithGap a b → NotAfter b c → PrecedesWithGap a c
 PrecedesWithGap-upto a b c p upto =
@@ -108,23 +115,29 @@ PrecedesWithGap-upto a b c p upto =
           let wrong : is_lt (answer_cmp c b) ≡ true = ap is_lt first in cc)
     ] refl
 
--- the order by which the code sorts
-pub row_cmp_total : IsTotalOrder row_cmp
-row_cmp_total = then_total (on_total (λ (r : PeriodRow). r.values) values_cmp_total) (then_total (on_total (λ (r : PeriodRow). r.period.start) int_cmp_total) (on_total (λ (r : PeriodRow). r.period.end) int_cmp_total))
+-- each of the first n rows precedes the next one so
+abbrev pub AreApart : List PeriodRow → ℕ → Type 0
+AreApart rows n = (k : ℕ) (d : PeriodRow) → k + 1 < n → PrecedesWithGap (get_or rows k d) (get_or rows (k + 1) d)
 
-coarser :
-    (v s e : Ordering) → is_lt (ordering_then v (ordering_then s e)) ≡ false
-    → is_lt (ordering_then v s) ≡ false
-coarser Less s e h = h
-coarser Equal Less e h = h
-coarser Equal Equal e h = refl
-coarser Equal Greater e h = refl
-coarser Greater s e h = refl
+far_apart :
+    (rows : List PeriodRow) (n : ℕ) → AreApart rows n → (i j : ℕ) (d : PeriodRow) → i < j → j < n
+    → PrecedesWithGap (get_or rows i d) (get_or rows j d)
+far_apart rows n near i zero d lt below = absurd (omega arith)
+far_apart rows n near i (suc j) d lt below =
+    let next : PrecedesWithGap (get_or rows j d) (get_or rows (suc j) d) = subst (λ m. PrecedesWithGap (get_or rows j d) (get_or rows m d)) (add-one j) (near j d (omega arith)) in
+    elim (cases_lt i j) [
+      | inl before ↦ PrecedesWithGap-trans (get_or rows i d) (get_or rows j d) (get_or rows (suc j) d) (far_apart rows n near i j d before (omega arith)) next
+      | inr not_before ↦ let same : i ≡ j = omega arith in subst (λ m. PrecedesWithGap (get_or rows m d) (get_or rows (suc j) d)) (sym same) next
+    ]
+
+-- rows of which each precedes the next one so are a coalesced list
+pub coalesced_as_they_are : (rows : List PeriodRow) (n : ℕ) → length rows ≤ n → AreApart rows n → IsCoalesced rows
+coalesced_as_they_are rows n whole near i j d lt below = far_apart rows n near i j d lt (omega arith)
+
+-- the order by which rows are sorted
+pub answer_ranks : IsStrictWeakOrder (λ a b. is_lt (answer_cmp a b))
+answer_ranks = ranks_by answer_cmp_total (λ (r : PeriodRow). r)
 
 -- after the sort no row comes after a later one
-pub sorted_rows : (rows : List PeriodRow) → IsSorted row_cmp rows → AllPairs NotAfter rows
-sorted_rows rows up = λ i j d lt below.
-    let a : PeriodRow = get_or rows i d in
-    let b : PeriodRow = get_or rows j d in
-    coarser (values_cmp b.values a.values) (int_cmp b.period.start a.period.start) (int_cmp b.period.end a.period.end)
-    (sorted_far (λ x y. is_lt (row_cmp x y)) (ranks_by row_cmp_total (λ (r : PeriodRow). r)) rows up i j d (omega arith) below)
+pub sorted_rows : (rows : List PeriodRow) → IsSorted answer_cmp rows → AllPairs NotAfter rows
+sorted_rows rows up = λ i j d lt below. sorted_far (λ a b. is_lt (answer_cmp a b)) answer_ranks rows up i j d (omega arith) below

@@ -104,14 +104,14 @@ module _ {S : Type 0} (steps : S → Option PeriodRow → S → Type 0) where
   Yields-append s [] t ys u a b = subst (λ k. Yields steps k ys u) (sym a) b
   Yields-append s (x ∷ xs) t ys u a b = (a.0, a.1, Yields-append a.0 xs t ys u a.2 b)
 
-  -- the source at s gave these rows behind the one in hand, and then, where none is in hand
-  -- afterwards, its end; where none was in hand it was not called
+  -- the source at s gave these rows behind the one in hand, and then, if none is in hand
+  -- afterwards, its end; if none was in hand it was not called
   abbrev Calls : Option PeriodRow → S → List PeriodRow → Option PeriodRow → Type 0
   Calls None s taken ahead = (taken ≡ []) × (ahead ≡ None)
   Calls (Some first) s taken ahead =
       (u : S) × Yields steps s taken u × MatchOption ahead ((v : S) × steps u None v) (λ _. Unit {0})
 
-  -- what calls gave that led from one row in hand, the source at s, to another
+  -- the rows that calls gave, which led from one row in hand, with the source at s, to another
   record Streams (held : Option PeriodRow) (s : S) (given : List PeriodRow) (ahead : Option PeriodRow) : Type 0 where
     taken : List PeriodRow
     calls : Calls held s taken ahead
@@ -155,7 +155,7 @@ module _ {S : Type 0} (steps : S → Option PeriodRow → S → Type 0) where
       one_more (coalesce_ahead a) (coalesce_source a) row (coalesce_ahead e.0) (coalesce_source e.0) rows (coalesce_ahead b) e.1
       (streams e.0 rows b e.2)
 
-  -- where a call gives None no row is in hand
+  -- if a call gives None no row is in hand
   none_ahead : (P : Type 0) (held : Option PeriodRow) → MatchOption held P (λ first. ⊥) → held ≡ None
   none_ahead P None h = refl
   none_ahead P (Some first) h = absurd h
@@ -195,7 +195,7 @@ module _ {S : Type 0} (steps : S → Option PeriodRow → S → Type 0) where
 
 -- ---- the rows of a `Vec`
 
--- what calls have given, and what is left
+-- the rows that calls have given, and those that are left
 into_iter_gave :
     (s : IntoIter PeriodRow Global) (rows : List PeriodRow) (t : IntoIter PeriodRow Global)
     → Yields into_iter_steps s rows t → into_iter_items s ≡ rows ++ into_iter_items t

@@ -14,7 +14,7 @@ NotAfter a b = is_lt (answer_cmp b a) ≡ false
 abbrev pub IsOrdered : List PeriodRow → Type 0
 IsOrdered = AllPairs NotAfter
 
--- a comes before b, and where the two are value-equivalent a day without them lies between
+-- a comes before b, and if the two are value-equivalent a day without them lies between
 abbrev pub PrecedesWithGap : PeriodRow → PeriodRow → Type 0
 PrecedesWithGap a b =
     (answer_cmp a b ≡ Less) × (a.values ≡ b.values → a.period.end <ℤ b.period.start)

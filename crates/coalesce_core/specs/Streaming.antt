@@ -1,4 +1,4 @@
--- What a `Coalesce` gives, by what its source gives.
+-- The rows of a `Coalesce`, by the rows of its source.
 use Rattle.std.specs.Prelude.{◌≡◌, ◌+◌, ◌∷◌, ◌++◌, List, Option, None, true}
 use Rattle.std.specs.Prelude.{IsSomeAnd, MatchOption, OnSome, option_to_list}
 use Rattle.std.specs.Option.{option_map_or}
@@ -8,8 +8,9 @@ use Rattle.period_core.specs.declared.row.PeriodRow.{PeriodRow}
 use Rattle.coalesce_core.specs.declared.merging.Coalesce.{Coalesce}
 use Rattle.coalesce_core.specs.Coalesced.{IsCoalescedOf, IsOrdered}
 
--- ---- its parts
+-- ---- the parts of a `Coalesce`
 
+-- the source of a stream
 abbrev pub coalesce_source : {S : Type 0} → Coalesce S → S
 coalesce_source s = s.source
 
@@ -17,7 +18,7 @@ coalesce_source s = s.source
 abbrev pub coalesce_ahead : {S : Type 0} → Coalesce S → Option PeriodRow
 coalesce_ahead s = s.ahead
 
--- where a row is in hand, the source may be called, and ends
+-- if a row is in hand, the source may be called, and ends
 abbrev pub coalesce_can : {S : Type 0} → (S → Type 0) → (S → Count) → Coalesce S → Type 0
 coalesce_can can left s =
     OnSome (coalesce_ahead s) (can (coalesce_source s) × IsFinite (left (coalesce_source s)))
@@ -31,7 +32,7 @@ coalesce_left left s =
 -- ---- a call
 
 module _ {S : Type 0} (steps : S → Option PeriodRow → S → Type 0) where
-  -- calls of the source led from s to t and gave the rows and then the one in hand, or, where
+  -- calls of the source led from s to t and gave the rows and then the one in hand, or, if
   -- there is none, its end
   abbrev pub Takes : S → List PeriodRow → Option PeriodRow → S → Type 0
   Takes s rows ahead t =
@@ -47,7 +48,7 @@ module _ {S : Type 0} (steps : S → Option PeriodRow → S → Type 0) where
     pub gave : IsOrdered ((first ∷ merged) ++ option_to_list ahead)
         → IsCoalescedOf ((first ∷ merged) ++ option_to_list ahead) (given ∷ option_to_list ahead)
 
-  -- a call gives None where no row is in hand, and none is afterwards; else it merges
+  -- a call gives None if no row is in hand, and none is afterwards; else it merges
   abbrev pub coalesce_steps : Coalesce S → Option PeriodRow → Coalesce S → Type 0
   coalesce_steps s r t =
       MatchOption (coalesce_ahead s)
@@ -58,7 +59,7 @@ module _ {S : Type 0} (steps : S → Option PeriodRow → S → Type 0) where
 -- ---- all calls
 
 -- of a run of a `Coalesce` and the underlying run of its source: what the one gave, with the row
--- that is in hand, if there is one, is the coalesced list of what the other gave. Where the one
+-- that is in hand, if there is one, is the coalesced list of what the other gave. If the one
 -- has ended, so has the other, and no row is in hand.
 pub record IsCoalescedRun {S T : Type 0} {steps : S → Option PeriodRow → S → Type 0}
     {source : T → Option PeriodRow → T → Type 0} (p : Run steps) (q : Run source)

@@ -10,9 +10,14 @@ ghost use Rattle.temporal_model.specs.Answer.{IsInAnswerOrder, IsCertified};
 ghost use Rattle.temporal_model.specs.Witness.{witness_of, WitnessEachRow};
 
 mod merging;
+mod ordering;
+mod sorting;
 
 pub use merging::Coalesce;
+pub use ordering::compare_values;
+use ordering::is_coalesced;
 use period_core::{Memory, PeriodRow, Witness};
+use sorting::in_order;
 use std::alloc::Global;
 
 /// The shortest list with the same snapshots, in the order of values and then first day.
@@ -23,8 +28,10 @@ pub fn coalesce(alloc: Global, rows: Vec<PeriodRow>) -> Result<Vec<PeriodRow>, M
     ensures certified { IfOk result (λ answer. IsCertified answer.items) }
     ensures unique { IfOk result (λ answer. IsUniqueUpToOrder answer.items) }
 {
-    let mut sorted = rows;
-    sorted.sort()?;
+    if is_coalesced(rows.as_slice()) {
+        return Ok(rows);
+    }
+    let sorted = in_order(alloc, rows)?;
     let merged: Vec<PeriodRow> = Coalesce::new(sorted.into_iter()).collect(alloc)?;
     Ok(merged)
 }

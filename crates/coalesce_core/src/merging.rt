@@ -7,6 +7,7 @@ ghost use Rattle.coalesce_core.specs.Coalesced.{IsOrdered};
 ghost use Rattle.coalesce_core.specs.Streaming.{coalesce_can, coalesce_left, coalesce_steps};
 ghost use Rattle.coalesce_core.specs.Streaming.{IsCoalescedRun};
 
+use crate::ordering::are_same;
 use period_core::{Day, Period, PeriodRow};
 
 /// The coalesced rows of a source of ordered rows, one at a time. It keeps one row of the source
@@ -28,7 +29,7 @@ impl<I: Iterator<Item = PeriodRow>> Coalesce<I> {
         ensures can { coalesce_can I.can_next I.remaining result }
         ensures ends { IsFinite (coalesce_left I.remaining result) }
 
-        // What it gives is the coalesced list of what the source gives.
+        // The rows that it gives are those of the source, coalesced.
         ensures runs { EachRunFrom (coalesce_steps I.next_gives) result (λ p.
             SomeRun I.next_gives source (λ q. IsCoalescedRun p q)) }
     {
@@ -65,7 +66,7 @@ fn joins(last: &PeriodRow, row: &PeriodRow) -> bool
     ensures { IsTrue result ↔
         ((last.now.values ≡ row.now.values) × (row.now.period.start ≤ℤ last.now.period.end)) }
 {
-    last.values == row.values && row.period.start <= last.period.end
+    are_same(last.values.as_slice(), row.values.as_slice()) && row.period.start <= last.period.end
 }
 
 // The period with its end moved to this day, if that is later.

@@ -1,11 +1,11 @@
--- Clap's clauses at a command that is known, and the faults that are told for them.
+-- Clap's clauses at a command that is known, and the faults that are reported for them.
 use Rattle.std.proofs.Common.{◌≡◌, ◌∙◌, ◌∷◌, List, [], ap, inl, inr, subst, sym, true}
 use Rattle.clap.specs.Words.{App, HasKind, HasMatchesOf, IsAmong, Kinds, Text, fault_of, found_of, is_simple, is_simple_and_free, kind_of, matches_of, rows_of}
 use Rattle.clap.specs.declared.error.Error.{Error}
 use Rattle.clap.specs.declared.error.kind.ErrorKind.{ErrorKind}
 use Rattle.clap.specs.declared.error.kind.ErrorKind.TheVariants.{OutOfMemory}
 use Rattle.clap.specs.declared.parser.matches.ArgMatches.{ArgMatches}
-use Rattle.command_line.specs.CommandFaults.{IsToldFor}
+use Rattle.command_line.specs.CommandFaults.{IsReportedFor}
 use Rattle.command_line.specs.declared.command.CommandFault.{CommandFault}
 use Rattle.command_line.specs.declared.command.CommandFault.TheVariants.{Shown, Mistake, Memory}
 
@@ -25,15 +25,15 @@ only_memory kinds fault none (inl memory) = memory
 only_memory [] fault none (inr among) = absurd among
 only_memory (kind ∷ kinds) fault none (inr among) = cc
 
--- what is found is found among more
-pub told_wider : (IsFound IsWider : ErrorKind → Type 0) (fault : CommandFault) → ((kind : ErrorKind) → IsFound kind → IsWider kind) → IsToldFor IsFound fault → IsToldFor IsWider fault
-told_wider IsFound IsWider (Shown text) wider (kind, found, request) = (kind, wider kind found, request)
-told_wider IsFound IsWider (Mistake text) wider (kind, found, mistake) = (kind, wider kind found, mistake)
-told_wider IsFound IsWider Memory wider told = tt
+-- a fault that is found is found among more
+pub reported_wider : (IsFound IsWider : ErrorKind → Type 0) (fault : CommandFault) → ((kind : ErrorKind) → IsFound kind → IsWider kind) → IsReportedFor IsFound fault → IsReportedFor IsWider fault
+reported_wider IsFound IsWider (Shown text) wider (kind, found, request) = (kind, wider kind found, request)
+reported_wider IsFound IsWider (Mistake text) wider (kind, found, mistake) = (kind, wider kind found, mistake)
+reported_wider IsFound IsWider Memory wider told = tt
 
--- the fault that is told for clap's is told for what it finds
-pub told_of : (kinds : Kinds) (IsWider : ErrorKind → Type 0) (error : Error) (fault : CommandFault) → HasKind kinds error → (kind_of error ≡ OutOfMemory → fault ≡ Memory)
-    → IsToldFor (λ kind. kind ≡ kind_of error) fault → ((kind : ErrorKind) → IsAmong kind kinds → IsWider kind) → IsToldFor IsWider fault
-told_of kinds IsWider error fault (inl none) memory told wider = subst (IsToldFor IsWider) (sym (memory none)) tt
-told_of kinds IsWider error fault (inr among) memory told wider =
-    told_wider (λ kind. kind ≡ kind_of error) IsWider fault (λ kind is. wider kind (subst (λ (k : ErrorKind). IsAmong k kinds) (sym is) among)) told
+-- the fault that is reported for clap's is reported for what it finds
+pub fault_for_kinds : (kinds : Kinds) (IsWider : ErrorKind → Type 0) (error : Error) (fault : CommandFault) → HasKind kinds error → (kind_of error ≡ OutOfMemory → fault ≡ Memory)
+    → IsReportedFor (λ kind. kind ≡ kind_of error) fault → ((kind : ErrorKind) → IsAmong kind kinds → IsWider kind) → IsReportedFor IsWider fault
+fault_for_kinds kinds IsWider error fault (inl none) memory told wider = subst (IsReportedFor IsWider) (sym (memory none)) tt
+fault_for_kinds kinds IsWider error fault (inr among) memory told wider =
+    reported_wider (λ kind. kind ≡ kind_of error) IsWider fault (λ kind is. wider kind (subst (λ (k : ErrorKind). IsAmong k kinds) (sym is) among)) told

@@ -73,23 +73,23 @@ named-check program (byte ∷ rest) plain =
     let short : short_of (byte ∷ rest) ≡ None = rw plain refl in
     rw (long, short, plain) (refl, (refl, refl))
 
-behind-run : (program name : Text) → IsReadAs (program ∷ codes "run" ∷ codes "--" ∷ name ∷ []) Run (Some name)
+dashed-run : (program name : Text) → IsReadAs (program ∷ codes "run" ∷ codes "--" ∷ name ∷ []) Run (Some name)
 unfolding clap_on_literals
-behind-run program name = (refl, ((refl, no_flag), refl))
+dashed-run program name = (refl, ((refl, no_flag), refl))
 
-behind-audit : (program name : Text) → IsReadAs (program ∷ codes "run" ∷ codes "--audit" ∷ codes "--" ∷ name ∷ []) RunAudited (Some name)
+dashed-audit : (program name : Text) → IsReadAs (program ∷ codes "run" ∷ codes "--audit" ∷ codes "--" ∷ name ∷ []) RunAudited (Some name)
 unfolding clap_on_literals
-behind-audit program name = (refl, ((refl, refl), refl))
+dashed-audit program name = (refl, ((refl, refl), refl))
 
-behind-check : (program name : Text) → IsReadAs (program ∷ codes "check" ∷ codes "--" ∷ name ∷ []) Check (Some name)
+dashed-check : (program name : Text) → IsReadAs (program ∷ codes "check" ∷ codes "--" ∷ name ∷ []) Check (Some name)
 unfolding clap_on_literals
-behind-check program name = (refl, (refl, refl))
+dashed-check program name = (refl, (refl, refl))
 
--- the words behind `run` with --audit among them
+-- the words after `run` with --audit among them
 read_audit : (program word : Text) (rest : List Text) (file : Option Text) → AuditsFile (word ∷ rest) file → IsReadAs (program ∷ codes "run" ∷ word ∷ rest) RunAudited file
 read_audit program word [] file (inl (flag, none)) = rw (flag, none) (none_named-audit program)
 read_audit program word (name ∷ []) file (inl (flag, (plain, named))) = rw (flag, named) (named-audit program name plain)
-read_audit program word (dashes ∷ name ∷ []) file (inl (flag, (are, named))) = rw (flag, are, named) (behind-audit program name)
+read_audit program word (dashes ∷ name ∷ []) file (inl (flag, (are, named))) = rw (flag, are, named) (dashed-audit program name)
 read_audit program word (dashes ∷ name ∷ other ∷ more) file (inl (flag, none)) = absurd none
 read_audit program word rest file (inr (flag, (plain, named))) = rw (flag, named) (named-audit_behind program word plain)
 
@@ -103,8 +103,8 @@ read_as (program ∷ sub ∷ []) Check file asks = rw (asks.0, asks.1) (none_nam
 read_as (program ∷ sub ∷ word ∷ rest) RunAudited file asks = rw asks.0 (read_audit program word rest file asks.1)
 read_as (program ∷ sub ∷ name ∷ []) Run file asks = rw (asks.0, asks.1.1) (named-run program name asks.1.0)
 read_as (program ∷ sub ∷ name ∷ []) Check file asks = rw (asks.0, asks.1.1) (named-check program name asks.1.0)
-read_as (program ∷ sub ∷ dashes ∷ name ∷ []) Run file asks = rw (asks.0, asks.1.0, asks.1.1) (behind-run program name)
-read_as (program ∷ sub ∷ dashes ∷ name ∷ []) Check file asks = rw (asks.0, asks.1.0, asks.1.1) (behind-check program name)
+read_as (program ∷ sub ∷ dashes ∷ name ∷ []) Run file asks = rw (asks.0, asks.1.0, asks.1.1) (dashed-run program name)
+read_as (program ∷ sub ∷ dashes ∷ name ∷ []) Check file asks = rw (asks.0, asks.1.0, asks.1.1) (dashed-check program name)
 read_as (program ∷ sub ∷ dashes ∷ name ∷ word ∷ more) Run file asks = absurd asks.1
 read_as (program ∷ sub ∷ dashes ∷ name ∷ word ∷ more) Check file asks = absurd asks.1
 

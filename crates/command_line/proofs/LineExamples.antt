@@ -10,7 +10,7 @@ use Rattle.clap.specs.declared.builder.value_parser.Reading.{Reading}
 use Rattle.clap.specs.declared.parser.matches.ValueSource.{ValueSource}
 use Rattle.period_core.specs.declared.refusal.Refusal.TheVariants.{BadStore, BadToken}
 use Rattle.clap.specs.declared.error.kind.ErrorKind.TheVariants.{DisplayHelp}
-use Rattle.command_line.specs.CommandFaults.{IsToldFor}
+use Rattle.command_line.specs.CommandFaults.{IsReportedFor}
 use Rattle.command_line.specs.CommandLine.{Chooses}
 use Rattle.command_line.specs.FileCommand.{IsFileCommand, IsFlag}
 use Rattle.command_line.specs.Lines.{IsReported, fault_line}
@@ -33,7 +33,7 @@ bad_store-line = refl
 writer-line : fault_line Bitemporal Write ≡ codes "bitemporal: cannot write the report\n"
 writer-line = refl
 
--- a line is told whole, or in part by a writer that failed
+-- a line is reported whole, or in part by a writer that failed
 part_of_line : IsReported true (Some (codes "a")) (Some (codes "abitem")) (fault_line Bitemporal Read)
 part_of_line = inr (refl, (5, refl))
 
@@ -43,11 +43,11 @@ no_part_of_line (inr told) = cc
 
 -- ---- command lines
 
--- an argument that is not there sets no flag
+-- an argument that is missing sets no flag
 no_flag : None ≡ Some (codes "true") → ⊥
 no_flag same = cc
 
--- what clap found for an argument: one value
+-- an argument with one value, as clap finds it
 abbrev one_value : List ℕ → List ℕ → Option ℕ → Option ValueSource → Reading → Row
 one_value id value count source reading =
     record { id = id; values = value ∷ []; count = count; source = source; reading = reading }
@@ -62,26 +62,35 @@ flag_is_false same = let wrong : codes "false" ≡ codes "true" = same_Some _ _ 
 chooses_no_audit : (count : Option ℕ) (source : Option ValueSource) (reading : Reading) → Chooses (Some (codes "run", one_value (codes "audit") (codes "false") count source reading ∷ [])) Run None
 chooses_no_audit count source reading = ((refl, flag_is_false), refl)
 
--- behind FILE there is one
+-- after FILE there is one
 chooses_file : (count : Option ℕ) (source : Option ValueSource) (reading : Reading) → Chooses (Some (codes "run", one_value (codes "FILE") (codes "a.sql") count source reading ∷ [])) Run (Some (codes "a.sql"))
 chooses_file count source reading = ((refl, no_flag), refl)
 
 -- ---- command lines of the second program
 
--- flags stand before, between or after the names
+-- flags are before, between or after the names
 flag_before_names : IsFileCommand (codes "--stop" ∷ codes "pay.store" ∷ codes "a.sql" ∷ [])
 unfolding IsDistinct
 flag_before_names = record {
   store = omega arith;
   flags = All-cons IsFlag (codes "--stop") [] (inr (inl refl)) (All-nil IsFlag);
   once = (tt, tt);
-  alone = λ tables. cc;
+  lists = λ tables. cc;
+  verifies = λ verify. cc;
+  reads_only = λ reads. cc;
 }
 
 -- and --tables beside no script
 tables_beside_a_script : IsFileCommand (codes "pay.store" ∷ codes "--tables" ∷ codes "a.sql" ∷ []) → ⊥
-tables_beside_a_script form = let one = (form.alone refl).1 in omega (arith, one)
+tables_beside_a_script form = let one = (form.lists refl).1 in omega (arith, one)
 
--- a mistake is told for no request
-no_mistake : (text : String Global) → IsToldFor (λ kind. kind ≡ DisplayHelp) (Mistake text) → ⊥
+-- nor --verify, and --read-only beside no --now
+verify_beside_a_script : IsFileCommand (codes "pay.store" ∷ codes "--verify" ∷ codes "a.sql" ∷ []) → ⊥
+verify_beside_a_script form = let one = (form.verifies refl).1 in omega (arith, one)
+
+now_beside_read_only : IsFileCommand (codes "pay.store" ∷ codes "--now" ∷ codes "--read-only" ∷ []) → ⊥
+now_beside_read_only form = let wrong : true ≡ false = form.reads_only refl in cc
+
+-- a mistake is reported for no request
+no_mistake : (text : String Global) → IsReportedFor (λ kind. kind ≡ DisplayHelp) (Mistake text) → ⊥
 no_mistake text (kind, is, mistake) = mistake (inl is)

@@ -5,7 +5,7 @@ use Rattle.command_line.specs.Lines.{IsReported, MayBeReportedAs, fault_line, wi
 use Rattle.command_line.specs.declared.fault.ProgramName.{ProgramName}
 use Rattle.command_line.specs.declared.fault.ProgramName.TheVariants.{Bitemporal, BitemporalFile}
 use Rattle.command_line.specs.declared.fault.RunFault.{RunFault}
-use Rattle.command_line.specs.declared.fault.RunFault.TheVariants.{Script, Memory, Words, Read, Write, NoStore, Locked, Unfinished}
+use Rattle.command_line.specs.declared.fault.RunFault.TheVariants.{Script, Memory, Words, Read, Write, NoStore, Locked, Unfinished, CopyThere, CopyFailed}
 
 pub memory_is : codes "bitemporal: 61 Memory\n" ≡ fault_line Bitemporal Memory
 unfolding digits
@@ -19,7 +19,7 @@ memory_is-second = refl
 pub joined : (a b c d e f g h : List ℕ) → a ++ (b ++ (c ++ (d ++ (e ++ (f ++ (g ++ h)))))) ≡ a ++ b ++ c ++ d ++ e ++ (f ++ g) ++ h
 joined a b c d e f g h = simp append_assoc
 
--- what is told without memory may be told
+-- a fault that is reported without memory may be reported so
 pub may_without : (fault : RunFault) → MayBeReportedAs fault (without_memory fault)
 may_without (Script refusal) = inr (tt, refl)
 may_without Memory = inl refl
@@ -29,8 +29,10 @@ may_without Write = inl refl
 may_without NoStore = inl refl
 may_without Locked = inl refl
 may_without Unfinished = inl refl
+may_without CopyThere = inl refl
+may_without CopyFailed = inl refl
 
 -- a fault whose line is the bytes written
-pub told_by : (program : ProgramName) (fault told : RunFault) (has_failed : Bool) (old new : Option (List ℕ)) (line : List ℕ) → line ≡ fault_line program told → MayBeReportedAs fault told
+pub line_of_fault : (program : ProgramName) (fault told : RunFault) (has_failed : Bool) (old new : Option (List ℕ)) (line : List ℕ) → line ≡ fault_line program told → MayBeReportedAs fault told
     → IsReported has_failed old new line → (told : RunFault) × MayBeReportedAs fault told × IsReported has_failed old new (fault_line program told)
-told_by program fault told has_failed old new line is may written = (told, may, subst (IsReported has_failed old new) is written)
+line_of_fault program fault told has_failed old new line is may written = (told, may, subst (IsReported has_failed old new) is written)

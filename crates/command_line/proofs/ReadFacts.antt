@@ -1,4 +1,4 @@
--- What was taken from a reader is the front of what it had.
+-- The bytes taken from a reader are the front of those that it had.
 use Rattle.std.proofs.Common.{◌≡◌, ◌≤◌, ◌+◌, ℕ, List, [], ◌++◌, Option, Some, None, length, length-append, take, IfSome, refl, ◌∙◌, arith}
 use Rattle.std.proofs.lemmas.List.{append-nil, take_all, take-append-le}
 use Rattle.std.proofs.KnownBytes.{Consumes-trans}

@@ -1,4 +1,4 @@
--- Which audits fail.
+-- Audits that fail.
 use Rattle.std.specs.Prelude.{Bool, Option, None, Some, Result, Ok, Err, false, true}
 use Rattle.period_core.specs.declared.refusal.Refusal.{Refusal}
 use Rattle.snapshot_audit.specs.declared.verdict.Verdict.{Verdict}

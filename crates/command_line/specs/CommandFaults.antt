@@ -16,12 +16,12 @@ IsRequest kind = (kind ≡ DisplayHelp) ⊎ (kind ≡ DisplayVersion)
 
 -- a fault of words in which these kinds are found: a request for help or the version is shown, and
 -- else there is a mistake; out of memory may come in the place of either
-abbrev pub IsToldFor : (ErrorKind → Type 0) → CommandFault → Type 0
-IsToldFor IsFound (Shown text) = (kind : ErrorKind) × IsFound kind × IsRequest kind
-IsToldFor IsFound (Mistake text) = (kind : ErrorKind) × IsFound kind × ¬ IsRequest kind
-IsToldFor IsFound Memory = ⊤
+abbrev pub IsReportedFor : (ErrorKind → Type 0) → CommandFault → Type 0
+IsReportedFor IsFound (Shown text) = (kind : ErrorKind) × IsFound kind × IsRequest kind
+IsReportedFor IsFound (Mistake text) = (kind : ErrorKind) × IsFound kind × ¬ IsRequest kind
+IsReportedFor IsFound Memory = ⊤
 
--- how a program ends in such a fault: its exit status, and what is known of the output and of
+-- the end of a program in such a fault: its exit status, and what is known of the output and of
 -- standard error, before and after
 abbrev pub IsShown : ProgramName → CommandFault → ℕ → Option (List ℕ) → Option (List ℕ) → Bool
     → Option (List ℕ) → Option (List ℕ) → Type 0

@@ -72,7 +72,7 @@ NamesFile (name ∷ []) file = (has_hyphen name ≡ false) × (file ≡ Some nam
 NamesFile (dashes ∷ name ∷ []) file = (dashes ≡ codes "--") × (file ≡ Some name)
 NamesFile (dashes ∷ name ∷ word ∷ more) file = ⊥
 
--- the same with --audit among them: it stands first, or after the name of the file
+-- a line with --audit among its words: it is first, or after the name of the file
 abbrev pub AuditsFile : List Text → Option Text → Type 0
 AuditsFile [] file = ⊥
 AuditsFile (word ∷ rest) file =

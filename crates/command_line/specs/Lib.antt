@@ -1,4 +1,5 @@
 pub mod CommandLine
+pub mod Backup
 pub mod FileCommand
 pub mod Reading
 pub mod Audits

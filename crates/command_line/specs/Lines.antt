@@ -13,7 +13,8 @@ use Rattle.statement_reports.specs.declared.fault.ReportFault.TheVariants as rep
 use Rattle.command_line.specs.declared.fault.RunFault.{RunFault}
 use Rattle.command_line.specs.declared.fault.RunFault.TheVariants.{Script, Memory, Words, Read}
 use Rattle.command_line.specs.declared.fault.RunFault.TheVariants.{Write, NoStore, Locked}
-use Rattle.command_line.specs.declared.fault.RunFault.TheVariants.{Unfinished}
+use Rattle.command_line.specs.declared.fault.RunFault.TheVariants.{Unfinished, CopyThere}
+use Rattle.command_line.specs.declared.fault.RunFault.TheVariants.{CopyFailed}
 use Rattle.command_line.specs.declared.fault.ProgramName.{ProgramName}
 use Rattle.command_line.specs.declared.fault.ProgramName.TheVariants.{Bitemporal, BitemporalFile}
 
@@ -22,7 +23,7 @@ abbrev pub offset_of : Refusal → Option ℕ
 offset_of (BadToken offset) = Some offset
 offset_of _ = None
 
--- that byte's offset after a space
+-- the byte's offset after a space
 abbrev pub detail_of : Option ℕ → List ℕ
 detail_of None = []
 detail_of (Some offset) = codes " " ++ decimal offset
@@ -65,20 +66,23 @@ fault_line program Words = message_line program (codes "a word of the command li
 fault_line program Read = message_line program (codes "cannot read the script")
 fault_line program Write = message_line program (codes "cannot write the report")
 fault_line program NoStore = message_line program (codes "cannot open the store")
-fault_line program Locked = message_line program (codes "another program has the store open")
+fault_line program Locked =
+    message_line program (codes "another program has the store open, perhaps an idle sqlite3")
 fault_line program Unfinished =
     message_line program (codes "the input ends within a statement, which was not run")
+fault_line program CopyThere = message_line program (codes "the file of the copy is there already")
+fault_line program CopyFailed = message_line program (codes "cannot write the copy")
 
 -- known bytes grow by the first bytes of the line, all of them or fewer
 abbrev pub GetsFrontOf : Option (List ℕ) → Option (List ℕ) → List ℕ → Type 0
 GetsFrontOf old new line = (count : ℕ) × Appends old new (take count line)
 
--- known bytes grow by the line; or, where a write failed, by a front of it
+-- known bytes grow by the line; or, if a write failed, by a front of it
 abbrev pub IsReported : Bool → Option (List ℕ) → Option (List ℕ) → List ℕ → Type 0
 IsReported has_failed old new line =
     Appends old new line ⊎ ((has_failed ≡ true) × GetsFrontOf old new line)
 
--- the fault is that of a refused script, whose line takes memory
+-- the fault is a refused script's, whose line takes memory
 abbrev pub IsOfScript : RunFault → Type 0
 IsOfScript (Script refusal) = ⊤
 IsOfScript _ = ⊥
@@ -87,7 +91,7 @@ IsOfScript _ = ⊥
 abbrev pub MayBeReportedAs : RunFault → RunFault → Type 0
 MayBeReportedAs fault told = (told ≡ fault) ⊎ (IsOfScript fault × (told ≡ Memory))
 
--- how a fault is reported without memory
+-- the report of a fault without memory
 abbrev pub without_memory : RunFault → RunFault
 without_memory (Script refusal) = Memory
 without_memory fault = fault

@@ -1,4 +1,4 @@
--- How much of a script its reader is asked for.
+-- The bytes of a script for which its reader is asked.
 use Rattle.std.specs.Prelude.{◌≤◌, ◌+◌, ℕ, List, Option, length, take}
 use Rattle.std.specs.Io.KnownBytes.{Consumes}
 

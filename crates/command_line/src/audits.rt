@@ -1,4 +1,4 @@
-//! Which audits fail.
+//! Audits that fail.
 
 ghost use Rattle.std.specs.Prelude.{◌≡◌};
 ghost use Rattle.command_line.specs.Audits.{fails_audit};

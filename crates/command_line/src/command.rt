@@ -11,7 +11,7 @@ ghost use Rattle.command_line.specs.CommandLine.{IsCommandLineFor, Chooses, IsMo
 ghost use Rattle.command_line.specs.CommandLine.{IsLineFault, audit_flag};
 ghost use Rattle.command_line.specs.CommandLine.{bitemporal, file_word, run_command};
 ghost use Rattle.command_line.specs.CommandLine.{script_command};
-ghost use Rattle.command_line.specs.CommandFaults.{IsToldFor};
+ghost use Rattle.command_line.specs.CommandFaults.{IsReportedFor};
 
 use crate::help::{
     ABOUT, AUDIT_HELP, CHECK_ABOUT, CHECK_STATUSES, EXAMPLES, FILE_HELP, REFUSALS, RUN_ABOUT,
@@ -23,7 +23,7 @@ use std::alloc::{AllocError, Global};
 use std::convert::AsStr;
 use thiserror::Error;
 
-/// What the program does.
+/// The mode of a run of the program.
 #[derive(Clone, Copy, PartialEq, Eq, Debug)]
 pub enum Mode {
     /// Runs a script and prints its report.
@@ -53,7 +53,7 @@ impl CommandFault {
     pub(crate) fn of_clap(alloc: Global, fault: &clap::Error) -> CommandFault
         ensures memory { kind_of fault.now ≡ ErrorKind.OutOfMemory
             → result ≡ CommandFault.Memory }
-        ensures told { IsToldFor (λ kind. kind ≡ kind_of fault.now) result }
+        ensures told { IsReportedFor (λ kind. kind ≡ kind_of fault.now) result }
     {
         if fault.kind() == ErrorKind::OutOfMemory {
             return CommandFault::Memory;
@@ -72,7 +72,7 @@ impl CommandFault {
         kind: ErrorKind,
         message: &str,
     ) -> CommandFault
-        ensures { IsToldFor (λ found. found ≡ kind) result }
+        ensures { IsReportedFor (λ found. found ≡ kind) result }
     {
         match command.error(kind, message) {
             Ok(fault) => CommandFault::of_clap(alloc, &fault),
@@ -189,8 +189,8 @@ fn text_below_help(alloc: Global) -> Result<String, AllocError> {
     format!(in alloc; "{EXAMPLES}\n\n{SECOND_PROGRAM}\n\n{RUN_STATUSES}\n\n{REFUSALS}")
 }
 
-/// What a command line, with the program's name as its first word, asks for: the mode, and the
-/// file where one is named.
+/// The mode that a command line asks for, with the program's name as its first word, and the
+/// file if one is named.
 pub fn command_line<S: AsStr>(
     alloc: Global,
     words: &[S],
@@ -209,7 +209,7 @@ pub fn command_line<S: AsStr>(
         (option_map string_bytes chosen.1)) }
 
     // Why it is refused is what clap finds, or else that no subcommand was met.
-    ensures refused { IfErr result (IsToldFor (IsLineFault (map S.text words.now))) }
+    ensures refused { IfErr result (IsReportedFor (IsLineFault (map S.text words.now))) }
 {
     let Ok(after) = text_below_help(alloc) else {
         return Err(CommandFault::Memory);
@@ -235,7 +235,7 @@ pub fn command_line<S: AsStr>(
 
 // No subcommand of the program was met.
 fn no_subcommand(alloc: Global, command: &mut Command<'_>) -> CommandFault
-    ensures { IsToldFor (λ kind. kind ≡ ErrorKind.MissingSubcommand) result }
+    ensures { IsReportedFor (λ kind. kind ≡ ErrorKind.MissingSubcommand) result }
 {
     CommandFault::of_mistake(
         alloc,

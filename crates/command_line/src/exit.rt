@@ -1,7 +1,7 @@
-//! How a program ends that gives no report: in a fault, whose line goes to standard error, or in
+//! The end of a program that gives no report: in a fault, whose line goes to standard error, or in
 //! the text of the command line's help, version or mistake.
 
-ghost use Rattle.std.specs.Prelude.{◌≡◌, ◌≤◌};
+ghost use Rattle.std.specs.Prelude.{◌≡◌, ◌≤◌, true};
 ghost use Rattle.command_line.specs.CommandFaults.{IsShown};
 ghost use Rattle.command_line.specs.Lines.{IsReported, MayBeReportedAs, fault_line};
 
@@ -22,6 +22,7 @@ pub fn end_in<W: Write>(
     ensures told { (told : RunFault) × MayBeReportedAs fault told
         × IsReported err.new.has_failed (W.contents err.old.inner) (W.contents err.new.inner)
         (fault_line program told) }
+    ensures failed { err.old.has_failed ≡ true → err.new.has_failed ≡ true }
 {
     report_fault(alloc, program, err, fault);
     2
@@ -53,7 +54,7 @@ pub fn show<W: Write, E: Write>(
     }
 }
 
-// Writes the line of a fault: the whole line, unless a write failed. Where there is no memory for
+// Writes the line of a fault: the whole line, unless a write failed. If there is no memory for
 // the line of a refusal, it is the line of out of memory.
 fn report_fault<W: Write>(
     alloc: Global,
@@ -61,9 +62,10 @@ fn report_fault<W: Write>(
     err: &mut Tracked<W>,
     fault: RunFault,
 )
-    ensures { (told : RunFault) × MayBeReportedAs fault told
+    ensures told { (told : RunFault) × MayBeReportedAs fault told
         × IsReported err.new.has_failed (W.contents err.old.inner) (W.contents err.new.inner)
         (fault_line program told) }
+    ensures failed { err.old.has_failed ≡ true → err.new.has_failed ≡ true }
 {
     match fault {
         RunFault::Script(refusal) => match line_of_refusal(alloc, program, &refusal) {
@@ -74,10 +76,11 @@ fn report_fault<W: Write>(
     }
 }
 
-// Writes the text, or as much of it as the writer takes before it fails.
-fn write_text<W: Write>(err: &mut Tracked<W>, text: &[u8])
-    ensures { IsReported err.new.has_failed
+/// Writes the text, or as much of it as the writer takes before it fails.
+pub fn write_text<W: Write>(err: &mut Tracked<W>, text: &[u8])
+    ensures reported { IsReported err.new.has_failed
         (W.contents err.old.inner) (W.contents err.new.inner) text.now }
+    ensures failed { err.old.has_failed ≡ true → err.new.has_failed ≡ true }
 {
     let mut written = 0;
     'writes: while written < text.len() {

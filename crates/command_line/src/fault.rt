@@ -32,7 +32,7 @@ impl ProgramName {
     }
 }
 
-/// Why a program gave no whole report, where its words ask for one.
+/// Why a program gave no whole report, if its words ask for one.
 #[derive(Clone, Copy, Debug, PartialEq, Eq)]
 pub enum RunFault {
     /// The whole script was refused, or the store.
@@ -51,6 +51,10 @@ pub enum RunFault {
     Locked,
     /// The input ends within a statement, which was not run.
     Unfinished,
+    /// The file of a copy, or the part of one that was not ended, exists already.
+    CopyThere,
+    /// The copy was not written.
+    CopyFailed,
 }
 
 impl RunFault {
@@ -139,10 +143,14 @@ pub(crate) fn ready_line(program: ProgramName, fault: RunFault) -> &'static [u8]
             RunFault::Read => b"bitemporal: cannot read the script\n",
             RunFault::Write => b"bitemporal: cannot write the report\n",
             RunFault::NoStore => b"bitemporal: cannot open the store\n",
-            RunFault::Locked => b"bitemporal: another program has the store open\n",
+            RunFault::Locked => {
+                b"bitemporal: another program has the store open, perhaps an idle sqlite3\n"
+            }
             RunFault::Unfinished => {
                 b"bitemporal: the input ends within a statement, which was not run\n"
             }
+            RunFault::CopyThere => b"bitemporal: the file of the copy is there already\n",
+            RunFault::CopyFailed => b"bitemporal: cannot write the copy\n",
         },
         ProgramName::BitemporalFile => match fault {
             RunFault::Script(_) => b"bitemporal_file: 61 Memory\n",
@@ -151,10 +159,14 @@ pub(crate) fn ready_line(program: ProgramName, fault: RunFault) -> &'static [u8]
             RunFault::Read => b"bitemporal_file: cannot read the script\n",
             RunFault::Write => b"bitemporal_file: cannot write the report\n",
             RunFault::NoStore => b"bitemporal_file: cannot open the store\n",
-            RunFault::Locked => b"bitemporal_file: another program has the store open\n",
+            RunFault::Locked => {
+                b"bitemporal_file: another program has the store open, perhaps an idle sqlite3\n"
+            }
             RunFault::Unfinished => {
                 b"bitemporal_file: the input ends within a statement, which was not run\n"
             }
+            RunFault::CopyThere => b"bitemporal_file: the file of the copy is there already\n",
+            RunFault::CopyFailed => b"bitemporal_file: cannot write the copy\n",
         },
     }
 }

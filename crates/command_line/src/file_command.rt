@@ -1,36 +1,52 @@
 //! The command line of the second program: the store, the scripts, and what is asked of them.
 
-ghost use Rattle.std.specs.Prelude.{◌≡◌, ◌⊎◌, ◌<◌, [], IfErr, IfOk, IsNone, IsSome, MatchResult};
-ghost use Rattle.std.specs.Prelude.{OnOk, codes, false, length, map, true, unwrap_or};
+ghost use Rattle.std.specs.Prelude.{◌≡◌, [], IfErr, IfOk, IsNone, IsSome, MatchResult, OnOk};
+ghost use Rattle.std.specs.Prelude.{codes, false, map, unwrap_or};
 ghost use Rattle.std.specs.String.{string_bytes};
 ghost use Rattle.clap.specs.Words.{all_of, app_of, fault_of, first_of, found_of, matches_of};
 ghost use Rattle.clap.specs.Words.{rows_of, rule_of};
-ghost use Rattle.command_line.specs.CommandFaults.{IsToldFor};
-ghost use Rattle.command_line.specs.FileCommand.{AskFor, Asks, IsFileCommand, IsFileFault};
-ghost use Rattle.command_line.specs.FileCommand.{ListsAlone, arguments_of, bitemporal_file};
-ghost use Rattle.command_line.specs.FileCommand.{flag_word, scripts_word, store_word};
+ghost use Rattle.command_line.specs.CommandFaults.{IsReportedFor};
+ghost use Rattle.command_line.specs.FileCommand.{AskFor, Asks, HasConflict, IsFileCommand};
+ghost use Rattle.command_line.specs.FileCommand.{IsFileFault, NeedsRun, SaysSeconds};
+ghost use Rattle.command_line.specs.FileCommand.{WaitsFor, arguments_of, bitemporal_file};
+ghost use Rattle.command_line.specs.FileCommand.{flag_word, scripts_word, store_word, wait_word};
 
 use crate::command::{CommandFault, is_set, value_of};
-use crate::file_help::{ABOUT, AFTER_HELP, FILE_HELP, STOP_HELP, STORE_HELP, TABLES_HELP};
+use crate::file_help::{
+    ABOUT, AFTER_HELP, FILE_HELP, NOW_HELP, READ_ONLY_HELP, STOP_HELP, STORE_HELP, TABLES_HELP,
+    VERIFY_HELP, WAIT_HELP,
+};
 use crate::help::{AUDIT_HELP, VERSION};
+use clap::builder::ValueParser;
 use clap::error::ErrorKind;
 use clap::{Arg, ArgAction, ArgMatches, Command};
 use std::alloc::{AllocError, Global};
 use std::convert::AsStr;
 
-/// What a command line of the second program asks for.
+// The seconds of a day, the longest wait.
+const MOST_SECONDS: u64 = 86_400;
+
+/// The request of a command line of the second program.
 #[derive(Drop)]
-pub struct Asked {
+pub struct Request {
     /// The name of the store's file.
     pub store: String,
-    /// The names of the scripts, in order; standard input where there is none.
+    /// The names of the scripts, in order; standard input if there is none.
     pub files: Vec<String>,
     /// Each answer is audited.
     pub audits: bool,
     /// Nothing is run after a refused statement.
     pub stops: bool,
+    /// The system's time moves the store's clock.
+    pub timed: bool,
     /// The tables are listed, and nothing is run.
     pub lists: bool,
+    /// The versions are counted and summed, and nothing is run.
+    pub verifies: bool,
+    /// Nothing is written.
+    pub reads_only: bool,
+    /// For so many seconds it waits while another program has the store open.
+    pub wait: u32,
 }
 
 fn store_argument<'a>(alloc: Global) -> Arg<'a>
@@ -62,6 +78,18 @@ fn flag<'a>(alloc: Global, name: &'a str, help: &'a str) -> Arg<'a>
         .action(ArgAction::SetTrue)
 }
 
+fn wait_argument<'a>(alloc: Global) -> Arg<'a>
+    ensures rule { rule_of result ≡ wait_word }
+    ensures local { result.global ≡ false }
+{
+    Arg::new(alloc, "wait")
+        .long("wait")
+        .help(WAIT_HELP)
+        .value_name("SECONDS")
+        .value_parser(ValueParser::Unsigned(0, MOST_SECONDS))
+        .action(ArgAction::Set)
+}
+
 // The program's command line.
 fn file_command<'a>(alloc: Global) -> Result<Command<'a>, AllocError>
     ensures { IfOk result (λ c. app_of c ≡ bitemporal_file) }
@@ -74,7 +102,11 @@ fn file_command<'a>(alloc: Global) -> Result<Command<'a>, AllocError>
     let filed = placed.arg(file_arguments(alloc))?;
     let audited = filed.arg(flag(alloc, "audit", AUDIT_HELP))?;
     let stopping = audited.arg(flag(alloc, "stop", STOP_HELP))?;
-    let whole = stopping.arg(flag(alloc, "tables", TABLES_HELP))?;
+    let timed = stopping.arg(flag(alloc, "now", NOW_HELP))?;
+    let listing = timed.arg(flag(alloc, "tables", TABLES_HELP))?;
+    let verifying = listing.arg(flag(alloc, "verify", VERIFY_HELP))?;
+    let reading = verifying.arg(flag(alloc, "read-only", READ_ONLY_HELP))?;
+    let whole = reading.arg(wait_argument(alloc))?;
     Ok(whole)
 }
 
@@ -109,31 +141,52 @@ fn store_of(alloc: Global, matches: &ArgMatches<'_>) -> Result<String, AllocErro
     }
 }
 
-fn asked_of(alloc: Global, matches: &ArgMatches<'_>) -> Result<Asked, AllocError>
+// The number that a text says, or 0.
+fn seconds_in(text: &str) -> u32
+    ensures { SaysSeconds text.now result }
+{
+    match text.parse::<u32>() {
+        Ok(seconds) => seconds,
+        Err(_) => 0,
+    }
+}
+
+fn wait_of(matches: &ArgMatches<'_>) -> u32
+    ensures { WaitsFor (first_of (codes "wait") (rows_of (found_of matches.now))) result }
+{
+    match value_of(matches, "wait") {
+        Some(text) => seconds_in(text),
+        None => 0,
+    }
+}
+
+fn asked_of(alloc: Global, matches: &ArgMatches<'_>) -> Result<Request, AllocError>
     ensures { IfOk result (Asks (rows_of (found_of matches.now))) }
 {
-    Ok(Asked {
+    Ok(Request {
         store: store_of(alloc, matches)?,
         files: files_of(alloc, matches)?,
         audits: is_set(matches, "audit"),
         stops: is_set(matches, "stop"),
+        timed: is_set(matches, "now"),
         lists: is_set(matches, "tables"),
+        verifies: is_set(matches, "verify"),
+        reads_only: is_set(matches, "read-only"),
+        wait: wait_of(matches),
     })
 }
 
-// The argument that stands beside `--tables`, as the usage names it, where that is set.
-fn beside_tables(asked: &Asked) -> Option<&'static str>
-    ensures alone { IsNone result → ListsAlone asked.now }
-    ensures beside { IsSome result → (asked.now.lists ≡ true)
-        × ((asked.now.audits ≡ true) ⊎ (asked.now.stops ≡ true)
-        ⊎ (0 < length asked.now.files.items)) }
+// The argument that calls for a run, as the usage names it, if there is one.
+fn running_argument(asked: &Request) -> Option<&'static str>
+    ensures none { IsNone result → ¬ NeedsRun asked.now }
+    ensures some { IsSome result → NeedsRun asked.now }
 {
-    if !asked.lists {
-        None
-    } else if asked.audits {
+    if asked.audits {
         Some("--audit")
     } else if asked.stops {
         Some("--stop")
+    } else if asked.timed {
+        Some("--now")
     } else if !asked.files.is_empty() {
         Some("[FILE]...")
     } else {
@@ -141,11 +194,39 @@ fn beside_tables(asked: &Asked) -> Option<&'static str>
     }
 }
 
-// The mistake of `--tables` beside another argument.
-fn tables_beside(alloc: Global, command: &mut Command<'_>, other: &str) -> CommandFault
-    ensures { IsToldFor (λ kind. kind ≡ ErrorKind.ArgumentConflict) result }
+// The first of two arguments that exclude each other, and the second, as the usage names them.
+fn conflict_in(asked: &Request) -> Option<(&'static str, &'static str)>
+    ensures none { IsNone result → ¬ HasConflict asked.now }
+    ensures some { IsSome result → HasConflict asked.now }
 {
-    match format!(in alloc; "the argument '--tables' cannot be used with '{other}'") {
+    if asked.lists && asked.verifies {
+        return Some(("--tables", "--verify"));
+    }
+    if asked.reads_only && asked.timed {
+        return Some(("--read-only", "--now"));
+    }
+    let Some(other) = running_argument(asked) else {
+        return None;
+    };
+    if asked.lists {
+        Some(("--tables", other))
+    } else if asked.verifies {
+        Some(("--verify", other))
+    } else {
+        None
+    }
+}
+
+// The mistake of an argument that another excludes.
+fn mistake_beside(
+    alloc: Global,
+    command: &mut Command<'_>,
+    argument: &str,
+    other: &str,
+) -> CommandFault
+    ensures { IsReportedFor (λ kind. kind ≡ ErrorKind.ArgumentConflict) result }
+{
+    match format!(in alloc; "the argument '{argument}' cannot be used with '{other}'") {
         Ok(message) => CommandFault::of_mistake(
             alloc,
             command,
@@ -156,19 +237,19 @@ fn tables_beside(alloc: Global, command: &mut Command<'_>, other: &str) -> Comma
     }
 }
 
-/// What a command line, with the program's name as its first word, asks for.
-pub fn asked_by<S: AsStr>(alloc: Global, words: &[S]) -> Result<Asked, CommandFault>
+/// The request of a command line, with the program's name as its first word.
+pub fn parse_request<S: AsStr>(alloc: Global, words: &[S]) -> Result<Request, CommandFault>
     // Lines of the usual form are accepted.
     ensures accepts { IsFileCommand (arguments_of (map S.text words.now))
         → MatchResult result (AskFor (arguments_of (map S.text words.now)))
         (λ fault. fault ≡ CommandFault.Memory) }
 
-    // No other line is accepted than those in which clap finds no fault, and there the tables are
-    // listed and nothing else.
+    // No other line is accepted than those in which clap finds no fault and no argument is in
+    // conflict with another.
     ensures taken { OnOk result (fault_of bitemporal_file (map S.text words.now) ≡ []) }
     ensures asked { IfOk result (Asks (matches_of bitemporal_file (map S.text words.now))) }
-    ensures alone { IfOk result ListsAlone }
-    ensures refused { IfErr result (IsToldFor (IsFileFault (map S.text words.now))) }
+    ensures alone { IfOk result (λ asked. ¬ HasConflict asked) }
+    ensures refused { IfErr result (IsReportedFor (IsFileFault (map S.text words.now))) }
 {
     let Ok(mut command) = file_command(alloc) else {
         return Err(CommandFault::Memory);
@@ -180,8 +261,8 @@ pub fn asked_by<S: AsStr>(alloc: Global, words: &[S]) -> Result<Asked, CommandFa
     let Ok(asked) = asked_of(alloc, &matches) else {
         return Err(CommandFault::Memory);
     };
-    match beside_tables(&asked) {
+    match conflict_in(&asked) {
         None => Ok(asked),
-        Some(other) => Err(tables_beside(alloc, &mut command, other)),
+        Some((argument, other)) => Err(mistake_beside(alloc, &mut command, argument, other)),
     }
 }

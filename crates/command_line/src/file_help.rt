@@ -1,22 +1,37 @@
 //! The texts of the second program's help.
 
-/// What the program is.
+/// The program in a sentence.
 pub const ABOUT: &str =
     "Runs SQL over tables with a period of validity and a history, which stay in a file.";
 
-/// What STORE is.
+/// The help of STORE.
 pub const STORE_HELP: &str = "The file of the store, which is made where it is not there";
 
-/// What FILE is.
+/// The help of FILE.
 pub const FILE_HELP: &str =
     "The scripts, run in this order; without one, a session of standard input";
 
-/// What `--stop` does.
+/// The help of `--stop`.
 pub const STOP_HELP: &str = "Runs nothing after the first statement that is refused";
 
-/// What `--tables` does.
+/// The help of `--now`.
+pub const NOW_HELP: &str =
+    "Moves the clock to the system's time before each statement but a query, if that is later";
+
+/// The help of `--tables`.
 pub const TABLES_HELP: &str =
     "Lists the clock and the tables, with how many versions each has, and runs nothing";
+
+/// The help of `--verify`.
+pub const VERIFY_HELP: &str =
+    "Counts the versions of each table, gives one sum of the whole history, and runs nothing";
+
+/// The help of `--read-only`.
+pub const READ_ONLY_HELP: &str = "Writes nothing: a statement that changes the store is refused";
+
+/// The help of `--wait`.
+pub const WAIT_HELP: &str =
+    "Waits so many seconds, at most 86400, while another program has the store open";
 
 /// Examples and exit statuses, below the help.
 pub const AFTER_HELP: &str = "\
@@ -24,9 +39,19 @@ Examples:
   bitemporal_file pay.store monday.sql             runs a script over the store in pay.store
   bitemporal_file pay.store < tuesday.sql          runs each statement as it is read
   bitemporal_file pay.store --stop a.sql b.sql     ends at the first statement that is refused
+  bitemporal_file pay.store --now < change.sql     records changes at the system's time
   bitemporal_file pay.store --tables               lists what is in it
+  bitemporal_file pay.store --verify               counts and sums its versions
+  bitemporal_file pay.store --backup monday.store  copies it into a new file, and runs nothing
+  bitemporal_file pay.store --wait 60 night.sql    waits a minute for another program at most
 
 The records of a statement are printed as soon as its change is in the file.
+
+Two stores with equal histories have one sum, also where one is a copy or a restored dump. A sum is
+no defence against forgery.
+
+With --now an AT that is later than the system's time is refused with 13, as FOREVER is. Without it
+AT alone moves the clock, and changes are recorded at the moment of the last one.
 
 Exit status:
   0  every statement was accepted

@@ -3,23 +3,23 @@
 /// The version that `--version` prints after the program's name.
 pub const VERSION: &str = "0.1.0";
 
-/// What the program is, in its own help.
+/// The program in a sentence, in its own help.
 pub const ABOUT: &str =
     "Runs or checks SQL over tables with a period of validity and a history, and prints a report.";
 
-/// What `run` does.
+/// The help of `run`.
 pub const RUN_ABOUT: &str = "Runs the statements of a script in order, and prints what each gives.";
 
-/// What `--audit` does.
+/// The help of `--audit`.
 pub const AUDIT_HELP: &str = "Checks each answer day by day, and reports what that finds";
 
-/// What `check` does.
+/// The help of `check`.
 pub const CHECK_ABOUT: &str = "Checks the syntax of a script without running it.";
 
-/// What FILE is.
+/// The help of FILE.
 pub const FILE_HELP: &str = "The script; without it, standard input is read";
 
-/// How the program is called, first below its own help.
+/// The calls of the program, first below its own help.
 pub const EXAMPLES: &str = "\
 Examples:
   bitemporal run examples/overview.sql

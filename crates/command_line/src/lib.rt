@@ -13,6 +13,7 @@
 #![tactic(auto)]
 
 mod audits;
+mod backup;
 mod command;
 mod exit;
 mod fault;
@@ -25,10 +26,11 @@ mod tracked;
 mod words;
 
 pub use audits::has_failed;
+pub use backup::{Backup, backup_of};
 pub use command::{CommandFault, Mode, command_line};
-pub use exit::{end_in, show};
+pub use exit::{end_in, show, write_text};
 pub use fault::{ProgramName, RunFault};
-pub use file_command::{Asked, asked_by};
+pub use file_command::{Request, parse_request};
 pub use script_reader::read_script;
 pub use scripts::{ScriptFiles, Scripts};
 pub use tracked::Tracked;

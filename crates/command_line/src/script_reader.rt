@@ -10,7 +10,7 @@ use std::io::{ErrorKind, Read};
 
 const CHUNK: usize = 4096;
 
-// How many interrupted reads of one script are tried again.
+// The number of interrupted reads of one script that are tried again.
 const MOST_RETRIES: usize = 1000;
 
 /// Reads a script that may have at most `most` bytes, and at most one byte more. A read that is

@@ -1,4 +1,4 @@
-//! Where the scripts of a command line are: the files that their names open.
+//! The scripts of a command line: the files that their names open.
 
 ghost use Rattle.std.specs.Prelude.{◌≡◌, ◌||◌, ℕ, List, None, Option, IfErr, IfOk, false, true};
 
@@ -10,7 +10,7 @@ use std::io::Read;
 
 /// Files by their names.
 pub trait Scripts {
-    // The bytes of the file that a name opens, where they are known.
+    // The bytes of the file that a name opens, if they are known.
     ghost content: { Self → List ℕ → Option (List ℕ) };
 
     /// An open file.

@@ -67,6 +67,7 @@ impl<W: Write> Write for Tracked<W> {
         ensures stuck { IfOk result (λ count.
             count ≡ 0 → 0 < length buf.now → self.new.has_failed ≡ true) }
         ensures failed { IfErr result (λ _. self.new.has_failed ≡ true) }
+        ensures stays { self.old.has_failed ≡ true → self.new.has_failed ≡ true }
     {
         match self.inner.write(buf) {
             Ok(count) => {

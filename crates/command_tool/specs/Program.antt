@@ -1,4 +1,4 @@
--- What a run of the program gives: its exit status, its report, and its line on standard error.
+-- A run of the program: its exit status, its report, and its line on standard error.
 use Rattle.std.specs.Prelude.{◌≡◌, ◌≢◌, ◌≤◌, ◌⊎◌, ◌+◌, ℕ, Bool, List, Option, None, Some, Result}
 use Rattle.std.specs.Prelude.{IfSome, true, is_err}
 use Rattle.std.specs.Prelude.{if◌then◌else◌, ⊤}
@@ -21,28 +21,29 @@ use Rattle.command_line.specs.declared.command.Mode.TheVariants.{Run, RunAudited
 use Rattle.command_line.specs.declared.fault.RunFault.{RunFault}
 use Rattle.command_line.specs.declared.fault.RunFault.TheVariants.{Script, Memory, Words, Read}
 use Rattle.command_line.specs.declared.fault.RunFault.TheVariants.{Write, NoStore, Locked}
-use Rattle.command_line.specs.declared.fault.RunFault.TheVariants.{Unfinished}
+use Rattle.command_line.specs.declared.fault.RunFault.TheVariants.{Unfinished, CopyThere}
+use Rattle.command_line.specs.declared.fault.RunFault.TheVariants.{CopyFailed}
 use Rattle.command_line.specs.declared.fault.ProgramName.TheVariants.{Bitemporal}
 
 -- the most bytes that are read: one more than a script may have
 abbrev pub read_limit : ℕ
 read_limit = most_bytes + 1
 
--- 1 where a statement was refused, else 0
+-- 1 if a statement was refused, else 0
 abbrev pub status_of : {T : Type 0} → List (Result T Refusal) → ℕ
 status_of results = if list_any is_err results then 1 else 0
 
--- 3 where an audit did not agree or was refused; else 1 where a statement was refused, else 0
+-- 3 if an audit did not agree or was refused; else 1 if a statement was refused, else 0
 abbrev pub audited_status : List Entry → ℕ
 audited_status entries =
     if list_any (λ (entry : Entry). fails_audit entry.audit) entries then 3
     else (if list_any (λ (entry : Entry). is_err entry.result) entries then 1 else 0)
 
--- the status of a report: 2 is that of a fault
+-- the status of a report: 2 says that there was a fault
 abbrev pub IsOfReport : ℕ → Type 0
 IsOfReport status = (status ≤ 3) × (status ≢ 2)
 
--- the results are of this kind for the script that the reader has, where its bytes are known
+-- the results are of this kind for the script that the reader has, if its bytes are known
 abbrev pub AreOfReader :
     {R : Type 0} → (List ℕ → List R → Type 0) → Option (List ℕ) → List R → Type 0
 AreOfReader IsOf input results = IfSome input (λ all. IsOf (read_of most_bytes all) results)
@@ -79,8 +80,10 @@ MayFailSilently MayRefuse input read_failed Write = ⊥
 MayFailSilently MayRefuse input read_failed NoStore = ⊥
 MayFailSilently MayRefuse input read_failed Locked = ⊥
 MayFailSilently MayRefuse input read_failed Unfinished = ⊥
+MayFailSilently MayRefuse input read_failed CopyThere = ⊥
+MayFailSilently MayRefuse input read_failed CopyFailed = ⊥
 
--- which refusals a whole script may get: only a run opens a store, and that is a new one
+-- the refusals of a whole script: only a run opens a store, and that is a new one
 abbrev pub MayRefuseIn : Mode → List ℕ → Refusal → Type 0
 MayRefuseIn Run = MayRefuseNewRun
 MayRefuseIn RunAudited = MayRefuseNewRun
@@ -113,7 +116,7 @@ abbrev pub MayEndIn :
 MayEndIn mode input read_failed =
     MayEndBy (MayEndSilently mode input read_failed) (HasResults mode input)
 
--- the script that the reader has, where its bytes are known, is refused as a whole
+-- the script that the reader has, if its bytes are known, is refused as a whole
 abbrev pub IsRefusedWhole : Option (List ℕ) → Type 0
 IsRefusedWhole None = ⊥
 IsRefusedWhole (Some all) = (refusal : Refusal) × ScriptApplies (read_of most_bytes all) refusal
@@ -131,12 +134,12 @@ pub record ProgramRun : Type 0 where
   pub err_failed : Bool
   pub status : ℕ
 
--- with another status than 2 the output got the report, and standard error nothing
+-- the output got the report, and standard error nothing: the status is not 2
 abbrev pub EndsInReport : ProgramRun → Type 0
 EndsInReport r = r.status ≢ 2
     → Reports r.mode r.script r.out_before r.out_after r.status × Keeps r.err_before r.err_after
 
--- with status 2 there is a fault, and standard error got its line
+-- the run ends in a fault, with status 2, and standard error got its line
 abbrev pub EndsInFault : ProgramRun → Type 0
 EndsInFault r = r.status ≡ 2 → (fault : RunFault)
     × MayEndIn r.mode r.script r.read_failed r.out_before r.out_after fault
@@ -146,11 +149,11 @@ EndsInFault r = r.status ≡ 2 → (fault : RunFault)
 abbrev pub EndsRefused : ProgramRun → Type 0
 EndsRefused r = IsRefusedWhole r.script → (r.status ≡ 2) × Keeps r.out_before r.out_after
 
--- how each run ends
+-- the end of each run
 abbrev pub EndsWell : ProgramRun → Type 0
 EndsWell r = (r.status ≤ 3) × EndsInReport r × EndsInFault r × EndsRefused r
 
--- the bytes of the script: those of the file that is named, or else of the reader
+-- the bytes of the script: from the file that is named, or else from the reader
 abbrev pub script_of :
     (List ℕ → Option (List ℕ)) → Option (List ℕ) → Option (List ℕ) → Option (List ℕ)
 script_of content_of input None = input

@@ -1,4 +1,4 @@
-//! What a script tells, by mode: what is kept of its statements, their report, and its status.
+//! The results of a script, their report and their status, for each mode.
 
 ghost use Rattle.std.specs.Prelude.{◌≡◌, ◌≢◌, ◌≤◌, ℕ, List, IfErr, IfOk, OnOk};
 ghost use Rattle.std.specs.Io.KnownBytes.{Appends};
@@ -25,7 +25,7 @@ use std::alloc::Global;
 use std::io::Write;
 use std::mem::ManuallyDrop;
 
-/// What a mode keeps of a statement.
+/// The results that a mode keeps of a statement.
 pub(crate) trait ModeResult {
     /// A script has these results.
     ghost is_of: { List ℕ → List Self → Type 0 };
@@ -132,7 +132,7 @@ impl ModeResult for Result<(), Refusal> {
     }
 }
 
-// What a run of the script over a new store keeps of its statements.
+// The results of a run of the script over a new store.
 fn run_results<K: PieceResult<MemoryStore> + Drop>(
     alloc: Global,
     script: &[u8],

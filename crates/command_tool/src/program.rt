@@ -4,7 +4,7 @@ ghost use Rattle.std.specs.Prelude.{◌≡◌, ◌≢◌, ◌≤◌, ℕ, [], Li
 ghost use Rattle.std.specs.String.{string_bytes};
 ghost use Rattle.std.specs.Io.KnownBytes.{Keeps};
 ghost use Rattle.clap.specs.Words.{fault_of};
-ghost use Rattle.command_line.specs.CommandFaults.{IsShown, IsToldFor};
+ghost use Rattle.command_line.specs.CommandFaults.{IsReportedFor, IsShown};
 ghost use Rattle.command_line.specs.CommandLine.{IsCommandLineFor, IsLineFault, bitemporal};
 ghost use Rattle.command_line.specs.Lines.{IsReported, MayBeReportedAs, fault_line};
 ghost use Rattle.command_line.specs.Reading.{TakesAtMost};
@@ -20,7 +20,7 @@ use command_line::{
 use std::alloc::Global;
 use std::io::{Read, Write};
 
-/// Does what the words ask for: a run or a check of the script in a file, or in `input` where they
+/// Does what the words ask for: a run or a check of the script in a file, or in `input` if they
 /// name none; help; or the version. Gives the exit status: of a run or a check as `run_tool` says,
 /// 0 for help and the version, else 2, and then `err` gets a text that says why.
 pub fn run_program<S: Scripts, R: Read, W: Write, E: Write>(
@@ -54,7 +54,7 @@ pub fn run_program<S: Scripts, R: Read, W: Write, E: Write>(
     // A fault that clap finds in the words is shown.
     ensures shown { IfOk words (λ said. fault_of bitemporal (map string_bytes said.items) ≢ []
         → (fault : CommandFault)
-        × IsToldFor (IsLineFault (map string_bytes said.items)) fault
+        × IsReportedFor (IsLineFault (map string_bytes said.items)) fault
         × IsShown Bitemporal fault result (W.contents out.old) (W.contents out.new)
         err.new.has_failed (E.contents err.old.inner) (E.contents err.new.inner)) }
     ensures taken { TakesAtMost read_limit

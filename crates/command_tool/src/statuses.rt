@@ -9,7 +9,7 @@ use command_line::has_failed;
 use period_core::Refusal;
 use script_engine::Entry;
 
-/// 1 where a statement was refused, else 0.
+/// 1 if a statement was refused, else 0.
 pub(crate) fn exit_status<T>(results: &[Result<T, Refusal>]) -> u8
     ensures { result ≡ status_of results.now }
 {
@@ -21,21 +21,21 @@ pub(crate) fn exit_status<T>(results: &[Result<T, Refusal>]) -> u8
     0
 }
 
-// Whether an audit of these did not agree or was refused.
+// Whether one of the audits did not agree or was refused.
 fn some_audit_failed(entries: &[Entry]) -> bool
     ensures { result ≡ list_any (λ entry. fails_audit entry.audit) entries.now }
 {
     entries.iter().any(|entry| has_failed(&entry.audit))
 }
 
-// Whether a statement of these was refused.
+// Whether one of the statements was refused.
 fn some_is_refused(entries: &[Entry]) -> bool
     ensures { result ≡ list_any (λ entry. is_err entry.result) entries.now }
 {
     entries.iter().any(|entry| entry.result.is_err())
 }
 
-/// 3 where an audit did not agree or was refused; else 1 where a statement was refused, else 0.
+/// 3 if an audit did not agree or was refused; else 1 if a statement was refused, else 0.
 pub(crate) fn audited_status(entries: &[Entry]) -> u8
     ensures { result ≡ audited_status entries.now }
 {

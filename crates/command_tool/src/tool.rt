@@ -16,9 +16,9 @@ use std::alloc::Global;
 use std::io::{Read, Write};
 
 /// Runs the script that the reader has, over a new store in memory, or checks it, as the mode says,
-/// and writes the report. Gives the exit status: 2 where the script was refused as a whole, or the
-/// reader, the writer or memory failed; else 3 where an audit did not agree or was refused; else 1
-/// where a statement was refused; else 0. With 2 `err` gets a line, whole unless a write failed,
+/// and writes the report. Gives the exit status: 2 if the script was refused as a whole, or the
+/// reader, the writer or memory failed; else 3 if an audit did not agree or was refused; else 1
+/// if a statement was refused; else 0. With 2 `err` gets a line, whole unless a write failed,
 /// and after a fault of the writer `out` may hold a part of the report.
 pub fn run_tool<R: Read, W: Write, E: Write>(
     alloc: Global,

@@ -32,11 +32,11 @@ fails_last true true c e = e
 fails_last true false c e = refl
 fails_last false b c e = refl
 
-pub begins_late : (window : Window) (least from to : ℤ) → begins_early window least ≡ false → least ≤ℤ from → window_sees window from to ≡ false
-begins_late Now least from to e le = absurd (let t : true ≡ false = e in cc)
-begins_late (AsOf m) least from to e le = ap (λ z. z && int_lt m to) (le_later least from m le e)
-begins_late (FromTo a b) least from to e le = fails (int_lt a b) (int_lt least b) (int_lt from b) (int_lt a to) (lt_later least from b le) e
-begins_late (Between a b) least from to e le = fails (int_le a b) (int_le least b) (int_le from b) (int_lt a to) (le_later least from b le) e
+pub begins_late : (window : Window) (earliest_from from to : ℤ) → begins_early window earliest_from ≡ false → earliest_from ≤ℤ from → window_sees window from to ≡ false
+begins_late Now earliest_from from to e le = absurd (let t : true ≡ false = e in cc)
+begins_late (AsOf m) earliest_from from to e le = ap (λ z. z && int_lt m to) (le_later earliest_from from m le e)
+begins_late (FromTo a b) earliest_from from to e le = fails (int_lt a b) (int_lt earliest_from b) (int_lt from b) (int_lt a to) (lt_later earliest_from from b le) e
+begins_late (Between a b) earliest_from from to e le = fails (int_le a b) (int_le earliest_from b) (int_le from b) (int_lt a to) (le_later earliest_from from b le) e
 
 pub ends_early : (window : Window) (last from to : ℤ) → ends_late window last ≡ false → to ≤ℤ last → window_sees window from to ≡ false
 ends_early Now last from to e le = not_forever to last forever le e

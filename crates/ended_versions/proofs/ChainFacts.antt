@@ -45,7 +45,7 @@ along all other bound hash place same is = record {
   only = λ k d from below e. is.only k d from below (same k d below ∙ e);
 }
 
--- a bound one greater, where the hash at the bound is another
+-- a bound one greater, if the hash at the bound is another
 higher : (all : List ℕ) (bound hash : ℕ) (place : Option ℕ) → ((d : ℕ) → get_or all bound d ≡ hash → ⊥) → IsLastPlace all bound hash place → IsLastPlace all (bound + 1) hash place
 higher all bound hash place none is = record {
   within = (let was = is.within in omega (arith, was));

@@ -1,4 +1,4 @@
--- One more entry behind the others, and only the first so many.
+-- Entries of ended versions with one more at the end, and only the first so many.
 use Rattle.std.proofs.Common.{◌≡◌, ◌≤ℤ◌, ◌≤◌, ◌<◌, ◌+◌, ◌-◌, ◌++◌, ◌∷◌, [], ◌∙◌, ◌⊎◌, ℕ, ℤ, List, length, get_or, take, drop, map, refl, sym, ap, subst, inl, inr, arith}
 use Rattle.std.specs.Prelude.{slice_range}
 use Rattle.std.specs.List.{All}
@@ -12,7 +12,7 @@ use Rattle.ended_versions.specs.Entries.{AreEntries, IsKept, KnowLeast, Precedes
 use Rattle.ended_versions.specs.Packed.{AreEndedBy, PackedVersion}
 use Rattle.ended_versions.specs.declared.blocks.VersionEntry.{VersionEntry}
 
--- ---- bytes behind the others
+-- ---- bytes after the others
 
 -- a part of the first list is the same in both
 pub same_part : (bytes more : List ℕ) (start end : ℕ) → start ≤ end → end ≤ length bytes → slice_range (bytes ++ more) start end ≡ slice_range bytes start end
@@ -33,7 +33,7 @@ kept_on bytes more entry kept = record {
   spelled = subst IsEncoding (sym (same_part bytes more entry.start entry.end kept.forward kept.within)) kept.spelled;
 }
 
--- what is kept of each is the same
+-- bytes that are appended leave the version of each entry as it was
 same_on : (bytes more : List ℕ) (entries : List VersionEntry) → All (IsKept bytes) entries → map (packed_in (bytes ++ more)) entries ≡ map (packed_in bytes) entries
 same_on bytes more [] kept = refl
 same_on bytes more (e ∷ es) kept =
@@ -45,37 +45,37 @@ same_on bytes more (e ∷ es) kept =
 
 -- ---- one more entry
 
--- the entry may come behind these: its bytes are those behind theirs, none of them ended later, and
--- none of its block begins before its `least`
-pub record ComesBehind (bytes more : List ℕ) (entries : List VersionEntry) (entry : VersionEntry) : Type 0 where
+-- the entry may come after these: its bytes are those after theirs, none of them ended later, and
+-- none of its block begins before its `earliest_from`
+pub record ComesAfter (bytes more : List ℕ) (entries : List VersionEntry) (entry : VersionEntry) : Type 0 where
   pub start : entry.start ≡ length bytes
   pub end : entry.end ≡ length (bytes ++ more)
   pub spelled : IsEncoding more
   pub ended : (k : ℕ) (d : VersionEntry) → k < length entries → (get_or entries k d).to ≤ℤ entry.to
-  pub own : entry.least ≤ℤ entry.from
-  pub others : (k : ℕ) (d : VersionEntry) → block_start (length entries) ≤ k → k < length entries → entry.least ≤ℤ (get_or entries k d).from
+  pub own : entry.earliest_from ≤ℤ entry.from
+  pub others : (k : ℕ) (d : VersionEntry) → block_start (length entries) ≤ k → k < length entries → entry.earliest_from ≤ℤ (get_or entries k d).from
 
 last_bytes : (bytes more : List ℕ) (entry : VersionEntry) → entry.start ≡ length bytes → entry.end ≡ length (bytes ++ more) → slice_range (bytes ++ more) entry.start entry.end ≡ more
 last_bytes bytes more entry s e =
     ap (λ n. slice_range (bytes ++ more) n entry.end) s
     ∙ (ap (slice_range (bytes ++ more) (length bytes)) e ∙ last_part bytes more)
 
-kept_last : (bytes more : List ℕ) (entries : List VersionEntry) (entry : VersionEntry) → ComesBehind bytes more entries entry → IsKept (bytes ++ more) entry
+kept_last : (bytes more : List ℕ) (entries : List VersionEntry) (entry : VersionEntry) → ComesAfter bytes more entries entry → IsKept (bytes ++ more) entry
 kept_last bytes more entries entry comes = record {
   forward = omega (arith, comes.start, comes.end, length-append bytes more);
   within = omega (arith, comes.end);
   spelled = subst IsEncoding (sym (last_bytes bytes more entry comes.start comes.end)) comes.spelled;
 }
 
-least_more : (entries : List VersionEntry) (entry : VersionEntry) → KnowLeast entries → entry.least ≤ℤ entry.from
-    → ((k : ℕ) (d : VersionEntry) → block_start (length entries) ≤ k → k < length entries → entry.least ≤ℤ (get_or entries k d).from)
+least_more : (entries : List VersionEntry) (entry : VersionEntry) → KnowLeast entries → entry.earliest_from ≤ℤ entry.from
+    → ((k : ℕ) (d : VersionEntry) → block_start (length entries) ≤ k → k < length entries → entry.earliest_from ≤ℤ (get_or entries k d).from)
     → KnowLeast (entries ++ entry ∷ [])
-least_more entries entry least own others = λ last place d from upto below.
+least_more entries entry earliest_from own others = λ last place d from upto below.
     let size : length (entries ++ entry ∷ []) ≡ length entries + 1 = length_push entries entry in
     go last place d from upto (omega arith) (cases_lt last (length entries)) (cases_lt place (length entries))
   where
     Known : VersionEntry → VersionEntry → Type 0
-    Known a b = a.least ≤ℤ b.from
+    Known a b = a.earliest_from ≤ℤ b.from
 
     both : (a b c e : VersionEntry) → a ≡ c → b ≡ e → Known c e → Known a b
     both a b c e p q h = subst (λ z. Known z b) (sym p) (subst (Known c) (sym q) h)
@@ -85,7 +85,7 @@ least_more entries entry least own others = λ last place d from upto below.
         → Known (get_or (entries ++ entry ∷ []) last d) (get_or (entries ++ entry ∷ []) place d)
     go last place d from upto below (inl before) at =
         both _ _ _ _ (get_or_append_left entries (entry ∷ []) d last before) (get_or_append_left entries (entry ∷ []) d place (omega arith))
-        (least last place d from upto before)
+        (earliest_from last place d from upto before)
     go last place d from upto below (inr behind) (inl before) =
         let e : last ≡ length entries = omega arith in
         both _ _ _ _ (get_or_push entries entry d last (sym e)) (get_or_append_left entries (entry ∷ []) d place before)
@@ -93,16 +93,16 @@ least_more entries entry least own others = λ last place d from upto below.
     go last place d from upto below (inr behind) (inr too) =
         both _ _ _ _ (get_or_push entries entry d last (omega arith)) (get_or_push entries entry d place (omega arith)) own
 
-pub one_more : (bytes more : List ℕ) (entries : List VersionEntry) (entry : VersionEntry) → AreEntries bytes entries → ComesBehind bytes more entries entry → AreEntries (bytes ++ more) (entries ++ entry ∷ [])
+pub one_more : (bytes more : List ℕ) (entries : List VersionEntry) (entry : VersionEntry) → AreEntries bytes entries → ComesAfter bytes more entries entry → AreEntries (bytes ++ more) (entries ++ entry ∷ [])
 one_more bytes more entries entry are comes = record {
   kept = All-push (IsKept (bytes ++ more)) entries entry (All-weaker (IsKept bytes) (IsKept (bytes ++ more)) (kept_on bytes more) entries are.kept) (kept_last bytes more entries entry comes);
   ordered = all_pairs_push Precedes entries entry are.ordered (λ k d below. record { ended = comes.ended k d below; apart = omega (arith, (are.kept k d below).within, comes.start) });
-  least = least_more entries entry are.least comes.own comes.others;
+  earliest_from = least_more entries entry are.earliest_from comes.own comes.others;
 }
 
 pub packed_more :
     (bytes more : List ℕ) (entries : List VersionEntry) (entry : VersionEntry) (version : PackedVersion) → AreEntries bytes entries
-    → ComesBehind bytes more entries entry
+    → ComesAfter bytes more entries entry
     → version ≡ record { bytes = more; period = entry.period; from = entry.from; to = entry.to }
     → map (packed_in (bytes ++ more)) (entries ++ entry ∷ []) ≡ map (packed_in bytes) entries ++ version ∷ []
 packed_more bytes more entries entry version are comes is =
@@ -145,7 +145,7 @@ first_ones bytes entries n count first =
     record {
       kept = λ k d below. subst (IsKept (take n bytes)) (sym (get_or-take count entries k d (omega arith))) (kept_first bytes entries n count first k d (omega arith));
       ordered = λ i j d lt below. pair Precedes entries count i j d (omega arith) (omega arith) (first.are.ordered i j d lt (omega (arith, first.fewer)));
-      least = λ last place d from upto below. pair (λ b a. a.least ≤ℤ b.from) entries count place last d (omega arith) (omega arith) (first.are.least last place d from upto (omega (arith, first.fewer)));
+      earliest_from = λ last place d from upto below. pair (λ b a. a.earliest_from ≤ℤ b.from) entries count place last d (omega arith) (omega arith) (first.are.earliest_from last place d from upto (omega (arith, first.fewer)));
     }
   where
     pair : (R : VersionEntry → VersionEntry → Type 0) (xs : List VersionEntry) (n i j : ℕ) (d : VersionEntry) → i < n → j < n → R (get_or xs i d) (get_or xs j d) → R (get_or (take n xs) i d) (get_or (take n xs) j d)
@@ -162,21 +162,21 @@ packed_first bytes entries n count first =
 
 -- one block more before the others
 pub least_on :
-    (entries : List VersionEntry) (entry : VersionEntry) (least now : ℤ) (place next : ℕ) → KnowLeast entries → 0 < place → place ≤ length entries
-    → entry ≡ get_or entries (place - 1) entry → next ≡ block_start (place - 1) → now ≤ℤ entry.least → now ≤ℤ least
-    → ((k : ℕ) (d : VersionEntry) → place ≤ k → k < length entries → least ≤ℤ (get_or entries k d).from)
+    (entries : List VersionEntry) (entry : VersionEntry) (earliest_from now : ℤ) (place next : ℕ) → KnowLeast entries → 0 < place → place ≤ length entries
+    → entry ≡ get_or entries (place - 1) entry → next ≡ block_start (place - 1) → now ≤ℤ entry.earliest_from → now ≤ℤ earliest_from
+    → ((k : ℕ) (d : VersionEntry) → place ≤ k → k < length entries → earliest_from ≤ℤ (get_or entries k d).from)
     → (k : ℕ) (d : VersionEntry) → next ≤ k → k < length entries → now ≤ℤ (get_or entries k d).from
-least_on entries entry least now place next known some inside is start by_entry by_least others k d from below =
+least_on entries entry earliest_from now place next known some inside is start by_entry by_least others k d from below =
     elim (cases_lt k place) [
       | inl before ↦
-          let its : (get_or entries (place - 1) d).least ≤ℤ (get_or entries k d).from = known (place - 1) k d (subst (λ n. n ≤ k) start from) (omega arith) (omega arith) in
+          let its : (get_or entries (place - 1) d).earliest_from ≤ℤ (get_or entries k d).from = known (place - 1) k d (subst (λ n. n ≤ k) start from) (omega arith) (omega arith) in
           let same : get_or entries (place - 1) d ≡ entry = get_or_default entries (place - 1) d entry (omega arith) ∙ sym is in
-          let mine : entry.least ≤ℤ (get_or entries k d).from = subst (λ (e : VersionEntry). e.least ≤ℤ (get_or entries k d).from) same its in
+          let mine : entry.earliest_from ≤ℤ (get_or entries k d).from = subst (λ (e : VersionEntry). e.earliest_from ≤ℤ (get_or entries k d).from) same its in
           omega (arith, ints)
       | inr behind ↦ let other = others k d behind below in omega (arith, ints)
     ]
 
--- ---- what the list of versions says of the entries
+-- ---- facts of versions, as facts of their entries
 
 pub ended_entries : (bytes : List ℕ) (entries : List VersionEntry) (moment : ℤ) → AreEndedBy moment (map (packed_in bytes) entries) → (k : ℕ) (d : VersionEntry) → k < length entries → (get_or entries k d).to ≤ℤ moment
 ended_entries bytes entries moment ended k d below =

@@ -31,6 +31,7 @@ filter_both {X} first second (x ∷ xs) = go (first x) (second x) refl (filter_b
     go true false is same = same ∙ sym (ap (λ (b : Bool). cond b (x ∷ filter second (filter first xs)) (filter second (filter first xs))) is)
     go false b is same = same
 
+-- a filter of a reversed list is the reversed filter
 pub filter-reverse : {X : Type 0} (test : X → Bool) (xs : List X) → filter test (reverse xs) ≡ reverse (filter test xs)
 filter-reverse test [] = refl
 filter-reverse {X} test (x ∷ xs) =
@@ -47,7 +48,7 @@ filter-reverse {X} test (x ∷ xs) =
 abbrev pub matches : List ℕ → Window → List Value → VersionRow → Bool
 matches positions window key v = window_sees window v.from v.to && shares_hash positions key v
 
--- what was found, down to a place
+-- the versions found, down to a place
 abbrev pub FoundTo : List ℕ → Window → List Value → List VersionRow → Option ℕ → List VersionRow → Type 0
 FoundTo positions window key versions place seen =
     reverse (filter (matches positions window key) versions) ≡ seen ++ reverse (filter (matches positions window key) (take (behind place) versions))
@@ -121,7 +122,7 @@ module _ (positions : List ℕ) (list : List PackedVersion) (hashes : List ℕ) 
 
 -- ---- hashes of more versions, and of fewer
 
--- more versions behind those that the hashes are of
+-- more versions after those that the hashes are of
 pub hashes_kept : (positions : List ℕ) (list more : List PackedVersion) (hashes : List ℕ) → AreHashes positions list hashes → AreHashes positions (list ++ more) hashes
 hashes_kept positions list more hashes are =
     let was = are.within in

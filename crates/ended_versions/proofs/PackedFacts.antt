@@ -1,4 +1,4 @@
--- Versions and the bytes of their values.
+-- Versions and the bytes of their values: each gives the other back.
 use Rattle.std.proofs.Common.{◌≡◌, ◌++◌, ◌∷◌, [], ◌∙◌, ℕ, ℤ, Bool, List, true, false, cond, length, map, reverse, refl, sym, ap, subst, arith, ◌-◌}
 use Rattle.std.specs.List.{All, filter}
 use Rattle.std.proofs.lemmas.List.{append_assoc, get_or-reverse, length-reverse, map-append, reverse-append, reverse-reverse}
@@ -32,6 +32,7 @@ same_first p q ps qs e = cc
 same_rest : (p q : PackedVersion) (ps qs : List PackedVersion) → p ∷ ps ≡ q ∷ qs → ps ≡ qs
 same_rest p q ps qs e = cc
 
+-- the values of a version are those of columns
 abbrev pub OfColumns : VersionRow → Type 0
 OfColumns v = All IsColumnValue v.values
 
@@ -44,7 +45,7 @@ same_versions (v ∷ vs) (w ∷ ws) h g e =
     ap (λ x. x ∷ vs) (same_version v w (All-head OfColumns v vs h) (All-head OfColumns w ws g) (same_first (packed v) (packed w) (map packed vs) (map packed ws) e))
     ∙ ap (λ xs. w ∷ xs) (same_versions vs ws (All-tail OfColumns v vs h) (All-tail OfColumns w ws g) (same_rest (packed v) (packed w) (map packed vs) (map packed ws) e))
 
--- ---- what a window sees
+-- ---- the versions that a window sees
 
 filter-map : {X Y : Type 0} (f : X → Y) (test : Y → Bool) (xs : List X) → filter test (map f xs) ≡ map f (filter (λ x. test (f x)) xs)
 filter-map f test [] = refl
@@ -97,6 +98,7 @@ seen_more bytes all before rest entry seen version same is one =
 
 -- ---- more versions
 
+-- a list that holds versions, with more packed after it, holds these too
 pub hold_more : (list : List PackedVersion) (versions more : List VersionRow) → Hold list versions → AreOfColumns more → Hold (list ++ map packed more) (versions ++ more)
 hold_more list versions more hold held = record {
   same = map-append packed versions more ∙ ap (λ ps. ps ++ map packed more) hold.same;

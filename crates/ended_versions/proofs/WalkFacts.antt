@@ -16,7 +16,7 @@ one_fails test xs d i inside fails =
     filter_more test xs i d inside
     ∙ (ap (λ b. filter test (take i xs) ++ cond b (get_or xs i d ∷ []) []) fails ∙ append-nil (filter test (take i xs)))
 
--- so many behind a place that do not pass
+-- so many after a place that do not pass
 some_fail :
     {X : Type 0} (test : X → Bool) (xs : List X) (d : X) (low n : ℕ) → low + n ≤ length xs
     → ((k : ℕ) → low ≤ k → k < low + n → test (get_or xs k d) ≡ false)
@@ -29,7 +29,7 @@ some_fail test xs d low (suc n) within none =
     ∙ (one_fails test xs d (low + n) (omega arith) (none (low + n) (omega arith) (omega arith))
     ∙ some_fail test xs d low n (omega arith) (λ k from below. none k from (omega arith)))
 
--- those from one place on and before another
+-- no place between two others, from none on and before
 pub none_between :
     {X : Type 0} (test : X → Bool) (xs : List X) (d : X) (low high : ℕ) → low ≤ high → high ≤ length xs
     → ((k : ℕ) → low ≤ k → k < high → test (get_or xs k d) ≡ false)
@@ -39,7 +39,7 @@ none_between test xs d low high order within none =
     ap (λ m. filter test (take m xs)) (sym e)
     ∙ some_fail test xs d low (high - low) (omega arith) (λ k from below. none k from (omega arith))
 
--- where the entry ends too early, so do those before it
+-- if an entry ends too early to be seen, so do those before it
 pub none_before :
     (window : Window) (entries : List VersionEntry) (entry : VersionEntry) (place : ℕ) → AreInOrder entries → place < length entries
     → entry ≡ get_or entries place entry → is_seen window entry ≡ false → ends_late window entry.to ≡ false
@@ -60,12 +60,12 @@ none_before window entries entry place order inside is unseen late =
       | inr ge ↦ here k (omega arith)
     ]
 
--- where a block begins too late, none of it is seen
+-- if a block begins too late, none of it is seen
 pub none_of_block :
     (window : Window) (entries : List VersionEntry) (entry : VersionEntry) (place : ℕ) → KnowLeast entries → place < length entries
-    → entry ≡ get_or entries place entry → block_start place ≤ place → begins_early window entry.least ≡ false
+    → entry ≡ get_or entries place entry → block_start place ≤ place → begins_early window entry.earliest_from ≡ false
     → filter (is_seen window) (take (place + 1) entries) ≡ filter (is_seen window) (take (block_start place) entries)
-none_of_block window entries entry place least inside is start late =
+none_of_block window entries entry place earliest_from inside is start late =
     none_between (is_seen window) entries entry (block_start place) (place + 1) (omega arith) (omega arith)
-    (λ k from below. begins_late window entry.least (get_or entries k entry).from (get_or entries k entry).to late
-    (subst (λ (z : VersionEntry). z.least ≤ℤ (get_or entries k entry).from) (sym is) (least place k entry from (omega arith) inside)))
+    (λ k from below. begins_late window entry.earliest_from (get_or entries k entry).from (get_or entries k entry).to late
+    (subst (λ (z : VersionEntry). z.earliest_from ≤ℤ (get_or entries k entry).from) (sym is) (earliest_from place k entry from (omega arith) inside)))

@@ -10,11 +10,11 @@ use Rattle.ended_versions.specs.declared.chains.Link.{Link}
 abbrev pub hashes : List Link → List ℕ
 hashes = map (λ (link : Link). link.hash)
 
--- the first place after a place; where there is none, the first of all
+-- the first place after a place; if there is none, the first of all
 abbrev pub behind : Option ℕ → ℕ
 behind place = option_map_or (λ (p : ℕ). p + 1) place 0
 
--- of the places before a bound, this is the last that has the hash; where it is none, none has
+-- of the places before a bound, this is the last that has the hash; if it is none, none has
 pub record IsLastPlace (all : List ℕ) (bound hash : ℕ) (place : Option ℕ) : Type 0 where
   pub within : behind place ≤ bound
   pub there : (p d : ℕ) → place ≡ Some p → slice_index_or all p d ≡ hash

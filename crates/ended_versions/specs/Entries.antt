@@ -41,15 +41,15 @@ AreInOrder = AllPairs Precedes
 abbrev pub block_start : ℕ → ℕ
 block_start place = bit_and (place + 1) place
 
--- no version of the block that an entry ends begins before its `least`
+-- no version of the block that an entry ends begins before its `earliest_from`
 abbrev pub KnowLeast : List VersionEntry → Type 0
 KnowLeast entries =
     (last place : ℕ) (d : VersionEntry) → block_start last ≤ place → place ≤ last
     → last < length entries
-    → (slice_index_or entries last d).least ≤ℤ (slice_index_or entries place d).from
+    → (slice_index_or entries last d).earliest_from ≤ℤ (slice_index_or entries place d).from
 
--- what is so of the whole list
+-- a whole list of entries over its bytes
 pub record AreEntries (bytes : List ℕ) (entries : List VersionEntry) : Type 0 where
   pub kept : All (IsKept bytes) entries
   pub ordered : AreInOrder entries
-  pub least : KnowLeast entries
+  pub earliest_from : KnowLeast entries

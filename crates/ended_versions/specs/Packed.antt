@@ -41,14 +41,14 @@ AreEndedBy moment = All (λ (version : PackedVersion). version.to ≤ℤ moment)
 abbrev pub ended_at : ℤ → VersionRow → VersionRow
 ended_at moment version = record version { to = moment }
 
--- what stays on record of a version that ends at the moment: nothing where it began then
+-- the record of a version that ends at the moment: none if it began then
 abbrev pub closed_row : ℤ → VersionRow → List VersionRow
 closed_row moment version = cond (int_eq version.from moment) [] (ended_at moment version ∷ [])
 
--- the same of each of some versions
+-- the records of some versions that end at the moment
 abbrev pub closed_at : ℤ → List VersionRow → List VersionRow
 closed_at moment = flat_map (closed_row moment)
 
--- those that the window sees
+-- the versions that the window sees
 abbrev pub seen_through : Window → List VersionRow → List VersionRow
 seen_through window = filter (λ (version : VersionRow). window_sees window version.from version.to)

@@ -1,5 +1,5 @@
-//! Blocks of ended versions: each place of the list ends one, and knows the least moment at which a
-//! version of its block begins.
+//! Blocks of ended versions. Entry i closes a block, and stores the earliest moment at which a
+//! version of the block begins.
 
 ghost use Rattle.std.specs.Prelude.{◌≡◌, ◌<◌, ◌≤◌, ◌≤ℤ◌, length, slice_index_or, ℕ};
 ghost use Rattle.ended_versions.specs.Entries.{KnowLeast, block_start};
@@ -11,9 +11,9 @@ use period_core::{Moment, Period};
 /// the least moment at which a version of the block that it ends begins.
 #[derive(Clone, Copy)]
 pub struct VersionEntry {
-    /// Where its values begin among the bytes.
+    /// The place among the bytes at which its values begin.
     pub start: usize,
-    /// Where they end.
+    /// The place at which they end.
     pub end: usize,
     /// The days on which they hold.
     pub period: Period,
@@ -22,7 +22,7 @@ pub struct VersionEntry {
     /// The moment at which its system time ended.
     pub to: Moment,
     /// The least `from` of its block.
-    pub least: Moment,
+    pub earliest_from: Moment,
 }
 
 /// The first place of the block that the place ends. A block has 1, 2, 4, .. places, as many as the
@@ -43,7 +43,7 @@ fn earlier(first: Moment, second: Moment) -> Moment
     if first < second { first } else { second }
 }
 
-/// The least moment at which a version begins of the block that the next entry ends, where its own
+/// The least moment at which a version begins of the block that the next entry ends, if its own
 /// begins at `from`.
 pub fn least_with(entries: &[VersionEntry], from: Moment) -> Moment
     requires { KnowLeast entries.now }
@@ -52,12 +52,12 @@ pub fn least_with(entries: &[VersionEntry], from: Moment) -> Moment
         → place < length entries.now → result ≤ℤ (slice_index_or entries.now place d).from }
 {
     let first = block_start(entries.len());
-    let mut least = from;
+    let mut earliest_from = from;
     let mut place = entries.len();
     while place > first {
         let entry = &entries[place - 1];
-        least = earlier(least, entry.least);
+        earliest_from = earlier(earliest_from, entry.earliest_from);
         place = block_start(place - 1);
     }
-    least
+    earliest_from
 }

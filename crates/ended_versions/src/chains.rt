@@ -12,7 +12,7 @@ use std::marker::Model;
 /// A place.
 #[derive(Clone, Copy)]
 pub struct Link {
-    /// Its hash.
+    /// The hash of its key.
     pub hash: u32,
     /// The last place before it of the same hash.
     pub before: Option<usize>,
@@ -48,7 +48,7 @@ impl Chains {
         }
     }
 
-    /// How many places there are.
+    /// The number of places.
     pub fn len(&self) -> usize
         ensures { result ≡ length self.now }
     {

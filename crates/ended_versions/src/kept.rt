@@ -21,12 +21,12 @@ use std::marker::Model;
 /// Ended versions, in the order in which they ended. Their values are kept as bytes, so a version
 /// of three numbers takes some 80 bytes. Contracts see the list, with the values so.
 #[derive(Drop)]
-pub struct KeptVersions {
+pub struct PackedVersions {
     bytes: Vec<u8>,
     entries: Vec<VersionEntry>,
 }
 
-impl Model for KeptVersions {
+impl Model for PackedVersions {
     ghost use Rattle.std.specs.Prelude.{List, map};
     ghost use Rattle.ended_versions.specs.Entries.{AreEntries, packed_in};
     ghost use Rattle.ended_versions.specs.Packed.{PackedVersion};
@@ -38,18 +38,18 @@ impl Model for KeptVersions {
     ghost invariant = { λ e. AreEntries e.bytes.items e.entries.items };
 }
 
-impl KeptVersions {
+impl PackedVersions {
     /// No versions.
-    pub fn new(alloc: Global) -> KeptVersions
+    pub fn new(alloc: Global) -> PackedVersions
         ensures { result ≡ [] }
     {
-        KeptVersions {
+        PackedVersions {
             bytes: Vec::new(alloc),
             entries: Vec::new(alloc),
         }
     }
 
-    /// How many there are.
+    /// The number of versions.
     pub fn len(&self) -> usize
         ensures { result ≡ length self.now }
     {
@@ -74,7 +74,7 @@ impl KeptVersions {
             period: version.period,
             from: version.from,
             to: end,
-            least: least_with(self.entries.as_slice(), version.from),
+            earliest_from: least_with(self.entries.as_slice(), version.from),
         };
         if let Err(refused) = self.entries.push(entry) {
             self.bytes.truncate(start);
@@ -94,7 +94,7 @@ impl KeptVersions {
         }
     }
 
-    /// Those that a window sees, the last to end first.
+    /// The versions that a window sees, the last to end first.
     pub fn seen(&self, alloc: Global, window: Window) -> Result<Vec<VersionRow>, Memory>
         ensures { (versions : List Version) → Hold self.now versions
             → IfOk result (λ seen. seen.items ≡ reverse (seen_through window versions)) }

@@ -11,7 +11,7 @@ ghost use Rattle.ended_versions.specs.Packed.{packed, seen_through};
 
 use crate::chains::Chains;
 use crate::hashes::{hash_at, hash_of};
-use crate::kept::KeptVersions;
+use crate::kept::PackedVersions;
 use period_core::{Items, Memory, Moment, Value, VersionRow, Window};
 use std::alloc::Global;
 use std::marker::Model;
@@ -22,7 +22,7 @@ use std::marker::Model;
 #[derive(Drop)]
 pub struct EndedVersions {
     positions: Items<usize>,
-    versions: KeptVersions,
+    versions: PackedVersions,
     keys: Chains,
 }
 
@@ -45,12 +45,12 @@ impl EndedVersions {
     {
         EndedVersions {
             positions,
-            versions: KeptVersions::new(alloc),
+            versions: PackedVersions::new(alloc),
             keys: Chains::new(alloc),
         }
     }
 
-    /// How many there are.
+    /// The number of versions.
     pub fn len(&self) -> usize
         ensures { result ≡ length self.now }
     {
@@ -133,7 +133,7 @@ impl EndedVersions {
         Ok(())
     }
 
-    /// Those that a window sees, the last to end first.
+    /// The versions that a window sees, the last to end first.
     pub fn seen(&self, alloc: Global, window: Window) -> Result<Vec<VersionRow>, Memory>
         ensures { (versions : List Version) → Hold self.now versions
             → IfOk result (λ seen. seen.items ≡ reverse (seen_through window versions)) }
@@ -141,9 +141,9 @@ impl EndedVersions {
         self.versions.seen(alloc, window)
     }
 
-    /// Those of them that may have this key at these positions, the last to end first: all of the
-    /// key, and of others those with the same hash. Where the positions are those of the table's
-    /// key, and all are chained, only these are looked at.
+    /// The versions that a window sees and that may have this key at these positions, the last to
+    /// end first: all of the key, and of others those with an equal hash. If the positions are
+    /// those of the table's key, and all are chained, only these are looked at.
     pub fn seen_of_key(
         &self,
         alloc: Global,
@@ -172,7 +172,7 @@ impl EndedVersions {
     }
 }
 
-/// Those of these versions whose values at the positions have the hash.
+/// The versions whose values at the positions have the hash.
 fn with_hash(
     alloc: Global,
     versions: Vec<VersionRow>,

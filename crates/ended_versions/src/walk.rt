@@ -1,4 +1,4 @@
-//! The way through the ended versions that a window sees, from the last to end back.
+//! Backward iteration over the ended versions that a window sees, from the last to end.
 
 ghost use Rattle.std.specs.Prelude.{◌≡◌, ◌++◌, ◌∷◌, ◌<◌, ◌≤◌, [], MatchOption, filter, length};
 ghost use Rattle.std.specs.Prelude.{slice_index_or, take};
@@ -17,7 +17,7 @@ fn is_seen(window: &Window, entry: &VersionEntry) -> bool
 }
 
 /// Whether a version that begins at the moment may be seen: of those that begin later none is,
-/// where it is not.
+/// if it is not.
 fn begins_early(window: &Window, from: Moment) -> bool
     ensures { result ≡ begins_early window.now from }
 {
@@ -29,7 +29,7 @@ fn begins_early(window: &Window, from: Moment) -> bool
     }
 }
 
-/// Whether a version that ends at the moment may be seen: of those that end earlier none is, where
+/// Whether a version that ends at the moment may be seen: of those that end earlier none is, if
 /// it is not.
 fn ends_late(window: &Window, to: Moment) -> bool
     ensures { result ≡ ends_late window.now to }
@@ -45,7 +45,7 @@ fn ends_late(window: &Window, to: Moment) -> bool
 /// doubling of the list's length, not for each version.
 pub fn last_seen(entries: &[VersionEntry], window: &Window, before: usize) -> Option<usize>
     requires ordered { AreInOrder entries.now }
-    requires least { KnowLeast entries.now }
+    requires earliest_from { KnowLeast entries.now }
     requires within { before ≤ length entries.now }
     ensures { MatchOption result (filter (is_seen window.now) (take before entries.now) ≡ [])
         (λ place. (place < before) × ((d : Kept)
@@ -62,7 +62,7 @@ pub fn last_seen(entries: &[VersionEntry], window: &Window, before: usize) -> Op
         if !ends_late(window, entry.to) {
             return None;
         }
-        place = if begins_early(window, entry.least) {
+        place = if begins_early(window, entry.earliest_from) {
             place - 1
         } else {
             block_start(place - 1)

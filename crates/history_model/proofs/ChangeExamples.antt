@@ -47,7 +47,7 @@ updating = record { table = 1; action = update }
 last_day : effect updating 1 (pos 14) (worker ∷ []) ≡ promoted ∷ []
 last_day = refl
 
--- each row keeps its origin, also where two become equal
+-- each row keeps its origin, also if two become equal
 origins : traced update (pos 12) (worker ∷ promoted ∷ []) ≡ record { origin = Kept worker; row = promoted } ∷ record { origin = Kept promoted; row = promoted } ∷ []
 origins = refl
 
@@ -56,7 +56,7 @@ origins = refl
 abbrev over : List Value → ℕ → ℕ → PlainRow
 over values start end = record { values = values; start = pos start; end = pos end }
 
--- what lies before the portion and from its end on keeps the old values
+-- the parts before the portion and from its end on keep the old values
 split : replacements update (over worker 10 20) ≡ over worker 10 12 ∷ over worker 15 20 ∷ over promoted 12 15 ∷ []
 split = refl
 
@@ -72,9 +72,9 @@ abbrev version : List Value → ℕ → ℕ → ℕ → ℤ → PlainVersion
 version values start end from to = record { values = values; start = pos start; end = pos end; from = pos from; to = to }
 
 -- the old version is closed, and three begin
-left_behind : versions_of history 1
+left_after : versions_of history 1
     ≡ version worker 10 20 100 (pos 200) ∷ version worker 10 12 200 forever ∷ version worker 15 20 200 forever ∷ version promoted 12 15 200 forever ∷ []
-left_behind = refl
+left_after = refl
 
 -- ---- windows
 

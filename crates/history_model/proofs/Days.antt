@@ -18,19 +18,21 @@ use Rattle.catalog_core.specs.declared.change.Action.{Action}
 use Rattle.catalog_core.specs.declared.change.Action.TheVariants.{Insert, Update, Delete}
 use Rattle.history_model.proofs.Lists.{filtered, flat_map-of_map, one_if}
 
--- ---- what rows show on a day, row by row
+-- ---- the values that rows show on a day, row by row
 
--- the row's values, where it holds on the day
+-- the row's values, if it holds on the day
 abbrev pub shown : ℤ → PlainRow → List (List Value)
 shown day row = one_if (covers_day row.start row.end day) row.values
 
+-- the values of a day are those that the plain rows show on it
 pub values_on-shown : (rows : List PeriodRow) (day : ℤ) → values_on rows day ≡ flat_map (shown day) (map plain_row rows)
 values_on-shown rows day =
     filtered (λ (row : PeriodRow). row.values) (λ (row : PeriodRow). covers_day row.period.start row.period.end day) rows
     ∙ sym (flat_map-of_map (shown day) plain_row rows)
 
--- ---- what an action makes of one row of the day
+-- ---- the rows that an action makes of one row of the day
 
+-- the rows that a change makes of the values of one row on a day
 abbrev pub made : Action → ℤ → List Value → List (List Value)
 made (Insert given) day row = row ∷ []
 made (Update portion assignments condition) day row =
@@ -55,7 +57,8 @@ all_kept : (rows : List (List Value)) → flat_map (λ (row : List Value). row �
 all_kept [] = refl
 all_kept (row ∷ rows) = ap (λ l. row ∷ l) (all_kept rows)
 
--- what the action makes of a day's rows: what it makes of each, and the given rows that hold on the day
+-- an action makes of a day's rows the rows that it makes of each, and the given rows that hold on
+-- the day
 pub rows_after-made : (action : Action) (day : ℤ) (rows : List (List Value)) → rows_after action day rows ≡ flat_map (made action day) rows ++ flat_map (shown day) (map plain_given (inserted_by action))
 rows_after-made (Insert given) day rows =
     map-append (λ (t : Traced). t.row) (map kept rows) (map inserted_row (filter (inserted_covers day) (enumerate_from 0 given)))
@@ -103,7 +106,7 @@ part_shown values start end day = go (int_lt start end) refl (covers_day start e
     go false e true f = absurd (none e f)
     go false e false f = rw f refl
 
--- on each day one of the two leftovers at most holds, and just where the row holds outside the portion
+-- on each day one of the two leftovers at most holds, and just if the row holds outside the portion
 outside : {X : Type 0} (x y p q : Bool) (v : X) → ((p ≡ true) → (q ≡ true) → ⊥)
     → one_if (x && (y && p)) v ++ one_if ((x && q) && y) v ≡ one_if ((x && y) && not (not p && not q)) v
 outside false y p q v apart = refl
@@ -173,12 +176,12 @@ and_parts false b e = cc
 
 -- ---- one row and an action
 
--- what one shown row gives
+-- the values that one shown row gives
 of_shown : {X Y : Type 0} (k : X → List Y) (c : Bool) (v : X) → cond c (k v) [] ≡ flat_map k (one_if c v)
 of_shown k true v = sym (append-nil (k v))
 of_shown k false v = refl
 
--- what stands in the place of a touched row shows what the action makes of that row
+-- the rows in the place of a touched row show the rows that the action makes of it
 pub touched_shown : (action : Action) (row : PlainRow) (day : ℤ) → touches action row ≡ true
     → flat_map (shown day) (replacements action row) ≡ flat_map (made action day) (shown day row)
 touched_shown (Insert given) row day e = cc

@@ -1,4 +1,4 @@
--- What one more event makes of a history's clock, catalog and states.
+-- A history's clock, catalog and states after one more event.
 use Rattle.std.proofs.Common.{◌≡◌, ◌<ℤ◌, ◌≤ℤ◌, ℕ, ℤ, Bool, true, false, List, [], ◌∷◌, ◌++◌, Option, Some, None, cond, fold, filter_map, refl, sym, ap, ◌∙◌, append_assoc, append-nil, arith}
 use Rattle.std.specs.Prelude.{int_le}
 use Rattle.std.proofs.lemmas.Int.{ints}
@@ -12,14 +12,17 @@ use Rattle.history_model.specs.Histories.{Changed, Database, Event, History, cat
 use Rattle.history_model.specs.Represents.{Represents}
 use Rattle.history_model.specs.Versions.{values_at}
 
+-- the clock after one more event
 pub clock_of-event : (history : History) (event : Event) → clock_of (with_event history event) ≡ clock_after (clock_of history) event
 clock_of-event history event = fold-append clock_after history.opening.clock history.events (event ∷ [])
 
+-- the catalog after one more event: a CREATE adds its table
 pub catalog_of-event : (history : History) (event : Event) → catalog_of (with_event history event) ≡ catalog_of history ++ filter_map created_by (event ∷ [])
 catalog_of-event history event =
     ap (λ (created : List TableDef). history.opening.catalog ++ created) (filter_map-append created_by history.events (event ∷ []))
     ∙ sym (append_assoc history.opening.catalog (filter_map created_by history.events) (filter_map created_by (event ∷ [])))
 
+-- a state after one more event: a change until the moment takes effect
 pub state_at-event : (history : History) (event : Event) (moment : ℤ) (table : ℕ) (day : ℤ) →
     state_at (with_event history event) moment table day
     ≡ fold (λ rows change. effect change table day rows) (state_at history moment table day) (filter_map (changed_until moment) (event ∷ []))

@@ -90,6 +90,7 @@ follows table moment day before clock open_clock (Changed at change ∷ events) 
     (after_change moment table day at change state) (made table at moment day change old state before now held))
 follows table moment day before clock open_clock (Queried ∷ events) order old sound state held = follows table moment day before clock open_clock events order old sound state held
 
+-- the versions that a history leaves hold at each moment its state on each day
 pub left_hold : (history : History) (table : ℕ) (versions : List VersionRow) → IsInOrder history → AreVersionsOf history table versions → (moment day : ℤ) → moment <ℤ forever
     → IsPermutation (values_at versions moment day) (state_at history moment table day)
 left_hold history table versions order left moment day before =
@@ -109,6 +110,7 @@ added-permutation : (action : Action) (xs ys : List PlainRow) → IsPermutation 
 added-permutation action xs ys p =
     IsPermutation-append_right (map plain_given (inserted_by action)) (flat_map (replacements action) xs) (flat_map (replacements action) ys) (flat_map-permutation (replacements action) xs ys p)
 
+-- the order of versions does not matter to a change
 pub versions_after-permutation : (moment : ℤ) (action : Action) (xs ys : List PlainVersion) → IsPermutation xs ys → IsPermutation (versions_after moment action xs) (versions_after moment action ys)
 versions_after-permutation moment action xs ys p =
     let A : List PlainVersion = map (begun_at moment) (added action (touched_rows action xs)) in
@@ -123,9 +125,11 @@ versions_after-permutation moment action xs ys p =
 
 -- ---- one more change
 
+-- the versions of a table after one more event
 pub versions_of-event : (history : History) (event : Event) (table : ℕ) → versions_of (with_event history event) table ≡ after_event table (versions_of history table) event
 versions_of-event history event table = fold-append (after_event table) (map plain_version (versions_in history.opening table)) history.events (event ∷ [])
 
+-- versions that a change makes of those of a history are those of the history after it
 pub left_more : (history : History) (at : ℤ) (change : Change) (table : ℕ) (old new : List VersionRow) → AreVersionsOf history table old
     → AppliesActionIf (nat_eq table change.table) at change.action old new → AreVersionsOf (with_event history (Changed at change)) table new
 left_more history at change table old new left makes =
@@ -165,7 +169,7 @@ split_of f (x ∷ xs) (z ∷ front) y back e =
     let (before, w, after, is, its, low, high) = split_of f xs front y back rest in
     (x ∷ before, w, after, ap (λ l. x ∷ l) is, its, ap₂ (λ a l. a ∷ l) here low, high)
 
--- lists whose images are in one order up to a permutation are so too, where no two elements have one image
+-- lists whose images are in one order up to a permutation are so too, if no two elements have one image
 pub from_images : {X Y : Type 0} (f : X → Y) → ((x y : X) → f x ≡ f y → x ≡ y) → (xs ys : List X) → IsPermutation (map f xs) (map f ys) → IsPermutation xs ys
 from_images {X} {Y} f one xs ys p = to_permutation xs ys (go xs ys (from_permutation (map f xs) (map f ys) p))
   where
@@ -181,6 +185,7 @@ from_images {X} {Y} f one xs ys p = to_permutation xs ys (go xs ys (from_permuta
         let joined : map f (before ++ after) ≡ front ++ back = map-append f before after ∙ ap₂ (λ (a b : List Y). a ++ b) low high in
         (before, after, is ∙ ap (λ (z : X). before ++ z ∷ after) same, go xs (before ++ after) (subst (Rearranged (map f xs)) (sym joined) rest))
 
+-- two lists of a table's versions are one, up to their order
 pub one_list : (history : History) (table : ℕ) (versions others : List VersionRow) → AreVersionsOf history table versions → AreVersionsOf history table others → IsPermutation versions others
 one_list history table versions others left also =
     from_images plain_version version_same versions others

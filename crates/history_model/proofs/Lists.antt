@@ -24,7 +24,7 @@ filtered f p (x ∷ xs) = go (p x) (filtered f p xs)
     go true ih = ap (λ l. f x ∷ l) ih
     go false ih = ih
 
--- what the elements that pass a test give
+-- the values of the elements that pass a test
 pub chosen : {X Y : Type 0} (p : X → Bool) (f : X → List Y) (xs : List X) → flat_map f (filter p xs) ≡ flat_map (λ x. cond (p x) (f x) []) xs
 chosen p f [] = refl
 chosen p f (x ∷ xs) = go (p x) (chosen p f xs)
@@ -38,7 +38,7 @@ pub flat_map-same : {X Y : Type 0} (f g : X → List Y) → ((x : X) → f x ≡
 flat_map-same f g same [] = refl
 flat_map-same f g same (x ∷ xs) = ap₂ (λ a b. a ++ b) (same x) (flat_map-same f g same xs)
 
--- the same, of elements of which a fact holds
+-- equal functions over elements of which a fact holds
 pub flat_map-same_of : {X Y : Type 0} (P : X → Type 0) (f g : X → List Y) → ((x : X) → P x → f x ≡ g x) → (xs : List X) → All P xs → flat_map f xs ≡ flat_map g xs
 flat_map-same_of P f g same [] h = refl
 flat_map-same_of P f g same (x ∷ xs) h = ap₂ (λ a b. a ++ b) (same x (All-head P x xs h)) (flat_map-same_of P f g same xs (All-tail P x xs h))
@@ -47,20 +47,23 @@ pub flat_map-none : {X Y : Type 0} (f : X → List Y) → ((x : X) → f x ≡ [
 flat_map-none f none [] = refl
 flat_map-none f none (x ∷ xs) = ap₂ (λ a b. a ++ b) (none x) (flat_map-none f none xs)
 
+-- a flat_map over a map is one flat_map
 pub flat_map-of_map : {X Y Z : Type 0} (f : Y → List Z) (g : X → Y) (xs : List X) → flat_map f (map g xs) ≡ flat_map (λ x. f (g x)) xs
 flat_map-of_map f g [] = refl
 flat_map-of_map f g (x ∷ xs) = ap (λ l. f (g x) ++ l) (flat_map-of_map f g xs)
 
+-- a flat_map over a flat_map is one flat_map
 pub flat_map-nested : {X Y Z : Type 0} (f : Y → List Z) (g : X → List Y) (xs : List X) → flat_map f (flat_map g xs) ≡ flat_map (λ x. flat_map f (g x)) xs
 flat_map-nested f g [] = refl
 flat_map-nested f g (x ∷ xs) = flat_map-append f (g x) (flat_map g xs) ∙ ap (λ l. flat_map f (g x) ++ l) (flat_map-nested f g xs)
 
+-- two lists before a third change places
 pub exchange : {X : Type 0} (xs ys zs : List X) → IsPermutation (xs ++ (ys ++ zs)) (ys ++ (xs ++ zs))
 exchange xs ys zs =
     subst (λ l. IsPermutation l (ys ++ (xs ++ zs))) (append_assoc xs ys zs)
     (subst (IsPermutation ((xs ++ ys) ++ zs)) (append_assoc ys xs zs) (IsPermutation-append_left zs (xs ++ ys) (ys ++ xs) (IsPermutation-append_comm xs ys)))
 
--- what the elements give keeps another order
+-- the values of the elements in another order
 pub flat_map-permutation : {X Y : Type 0} (f : X → List Y) (xs ys : List X) → IsPermutation xs ys → IsPermutation (flat_map f xs) (flat_map f ys)
 flat_map-permutation {X} {Y} f xs ys p = go xs ys (from_permutation xs ys p)
   where
@@ -81,6 +84,7 @@ All-put P x xs here rest (suc k) d h = rest k d (omega arith)
 pub All-nothing : {X : Type 0} (P : X → Type 0) → All P []
 All-nothing P k d h = absurd (omega arith)
 
+-- all that a filter keeps passes its test
 pub All-passed : {X : Type 0} (p : X → Bool) (xs : List X) → All (λ x. p x ≡ true) (filter p xs)
 All-passed p [] = All-nothing (λ x. p x ≡ true)
 All-passed p (x ∷ xs) = go (p x) refl (All-passed p xs)
@@ -89,6 +93,7 @@ All-passed p (x ∷ xs) = go (p x) refl (All-passed p xs)
     go true e rest = All-put (λ x. p x ≡ true) x (filter p xs) e rest
     go false e rest = rest
 
+-- a filter keeps the whole of a list of which all pass
 pub filter-whole : {X : Type 0} (p : X → Bool) (xs : List X) → All (λ x. p x ≡ true) xs → filter p xs ≡ xs
 filter-whole p [] h = refl
 filter-whole p (x ∷ xs) h = go (p x) (All-head (λ x. p x ≡ true) x xs h) (filter-whole p xs (All-tail (λ x. p x ≡ true) x xs h))

@@ -1,4 +1,4 @@
--- What a change makes of versions, as of each moment.
+-- Versions after a change, as of each moment.
 use Rattle.std.proofs.Common.{◌≡◌, ◌&&◌, ◌<ℤ◌, ◌≤ℤ◌, ◌⊎◌, ℤ, Bool, true, false, cond, List, [], ◌∷◌, ◌++◌, map, refl, sym, ◌∙◌, ap, ap₂, subst, inl, inr, arith, append-nil, append_assoc}
 use Rattle.std.specs.Prelude.{int_lt, int_le}
 use Rattle.std.specs.Ordering.{int_eq}
@@ -25,7 +25,7 @@ use Rattle.history_model.proofs.VersionFacts.{both, first_false, itself, not_tru
 
 -- ---- one version as of a moment
 
--- the version's values, where they are seen as of the moment on the day
+-- the version's values, if they are seen as of the moment on the day
 abbrev pub seen : ℤ → ℤ → PlainVersion → List (List Value)
 seen moment day v = one_if (window_sees (AsOf moment) v.from v.to && covers_day v.start v.end day) v.values
 
@@ -104,9 +104,9 @@ closed_earlier clock moment day early before v now = go (int_eq v.from clock) re
         append-nil (one_if ((int_le v.from moment && int_lt moment clock) && covers_day v.start v.end day) v.values)
         ∙ ap (λ b. one_if ((int_le v.from moment && b) && covers_day v.start v.end day) v.values) (a ∙ sym b)
 
--- ---- what stands in the place of one version
+-- ---- the versions in the place of one
 
--- from the clock on a version is seen just where it is current
+-- from the clock on a version is seen just if it is current
 open_or_not : (clock moment day : ℤ) → clock ≤ℤ moment → moment <ℤ forever → (v : PlainVersion) → Sound clock v
     → ((window_sees Now v.from v.to ≡ true) × (seen moment day v ≡ shown day (its_row v))) ⊎ ((window_sees Now v.from v.to ≡ false) × (seen moment day v ≡ []))
 open_or_not clock moment day late before v r = elim r.ended [ inl e ↦ inl (on e) | inr e ↦ inr (off e) ]
@@ -127,12 +127,13 @@ open_or_not clock moment day late before v r = elim r.ended [ inl e ↦ inl (on 
           ap (λ b. one_if (b && covers_day v.start v.end day) v.values) (second_false (int_le v.from moment) (int_lt moment v.to) b),
         )
 
--- what is left of a version shows, and the rows in its place, by whether the action touches it
+-- the rest of a version, and the rows in its place, by whether the action touches it
 abbrev placed : ℤ → ℤ → ℤ → Action → PlainVersion → Bool → List (List Value)
 placed clock moment day action v b =
     flat_map (seen moment day) (cond b (closed_at clock v) (v ∷ [])) ++ cond b (flat_map (shown day) (replacements action (its_row v))) []
 
--- what is left of a version shows, with the rows in its place, what the action makes of what it showed
+-- the rest of a version, with the rows in its place, shows the rows that the action makes of its
+-- own
 in_its_place : (clock moment day : ℤ) → clock ≤ℤ moment → moment <ℤ forever → (action : Action) (v : PlainVersion) → Sound clock v
     → flat_map (seen moment day) (remains_of clock action v) ++ cond (is_touched action v) (flat_map (shown day) (replacements action (its_row v))) []
     ≡ flat_map (made action day) (seen moment day v)
@@ -174,7 +175,7 @@ left_earlier clock moment day early before action v = go (is_touched action v) r
 
 -- ---- the versions after a change
 
--- what elements give in two parts is what they give in the first, and then in the second
+-- two parts of the elements' values: all of the first, and then all of the second
 apart : {X Y : Type 0} (f g : X → List Y) (xs : List X) → IsPermutation (flat_map (λ x. f x ++ g x) xs) (flat_map f xs ++ flat_map g xs)
 apart f g [] = IsPermutation-refl []
 apart {X} {Y} f g (x ∷ xs) =
@@ -187,14 +188,14 @@ apart {X} {Y} f g (x ∷ xs) =
     (subst (IsPermutation (f x ++ (g x ++ (F ++ G)))) (sym (append_assoc (f x) F (g x ++ G)))
     (IsPermutation-append_right (f x) (g x ++ (F ++ G)) (F ++ (g x ++ G)) (exchange (g x) F G))))
 
--- what the versions show after a change: what is left, and what is added
+-- the values that the versions show after a change: of the rest, and of the added ones
 after_seen : (clock moment day : ℤ) (action : Action) (old : List PlainVersion) → flat_map (seen moment day) (versions_after clock action old)
     ≡ flat_map (λ v. flat_map (seen moment day) (remains_of clock action v)) old ++ flat_map (λ row. seen moment day (begun_at clock row)) (added action (touched_rows action old))
 after_seen clock moment day action old =
     flat_map-append (seen moment day) (flat_map (remains_of clock action) old) (map (begun_at clock) (added action (touched_rows action old)))
     ∙ ap₂ (λ (a b : List (List Value)). a ++ b) (flat_map-nested (seen moment day) (remains_of clock action) old) (flat_map-of_map (seen moment day) (begun_at clock) (added action (touched_rows action old)))
 
--- what the added rows show
+-- the values that the added rows show
 added_shown : (day : ℤ) (action : Action) (old : List PlainVersion) → flat_map (shown day) (added action (touched_rows action old))
     ≡ flat_map (shown day) (map plain_given (inserted_by action)) ++ flat_map (λ v. cond (is_touched action v) (flat_map (shown day) (replacements action (its_row v))) []) old
 added_shown day action old =
@@ -241,7 +242,7 @@ after_earlier clock moment day early before action old =
     (flat_map-none (λ row. seen moment day (begun_at clock row)) (begun_earlier clock moment day early) (added action (touched_rows action old)))
     ∙ append-nil (flat_map (seen moment day) old)
 
--- what an action makes of a day's rows in another order
+-- the rows that an action makes of a day's rows in another order
 pub rows_after-permutation : (action : Action) (day : ℤ) (xs ys : List (List Value)) → IsPermutation xs ys → IsPermutation (rows_after action day xs) (rows_after action day ys)
 rows_after-permutation action day xs ys p =
     let G : List (List Value) = flat_map (shown day) (map plain_given (inserted_by action)) in

@@ -34,7 +34,7 @@ le_same a b = go (int_le a b) refl
     go true e = grind (arith, ints)
     go false e = grind (arith, ints)
 
--- a second before the old open end comes before an end where its moment does
+-- a second before the old open end precedes an end if its moment does
 end_same : (a to : ℤ) → a <ℤ last_second → int_lt (second_start a) (moved_end to) ≡ int_lt a to
 end_same a to before = go (int_eq to last_second) refl
   where
@@ -46,7 +46,7 @@ end_same a to before = go (int_eq to last_second) refl
         there ∙ sym here
     go false e = less_same a to
 
--- an end is FOREVER where it was the old open end
+-- an end is FOREVER if it was the old open end
 open_same : (to : ℤ) → int_eq (moved_end to) forever ≡ int_eq to last_second
 open_same to = go (int_eq to last_second) refl
   where

@@ -1,4 +1,4 @@
--- What a query gives over tables that are cut to slices.
+-- Answers of a query over tables that are cut to slices.
 use Rattle.std.proofs.Common.{◌↔◌, ◌⊎◌, ◌≢◌, ◌≤ℤ◌, ◌<ℤ◌, ◌++◌, inl, inr, refl, sym, subst, ℤ, List, [], ◌∷◌}
 use Rattle.std.specs.List.{AllZip, Contains}
 use Rattle.std.proofs.lemmas.Int.{by_lt_z}
@@ -18,7 +18,7 @@ use Rattle.history_model.specs.OrdinaryQuery.{InAnswerOver, InCombined, InProduc
 use Rattle.history_model.specs.Slices.{AreCutTo, HasReferences, InSlice, IsPartOver, Slice, SlicesMakeTheWhole, all_rows, slices_from}
 use Rattle.history_model.proofs.Visible.{query_seen}
 
--- ---- a query gives nothing where none of its references sees anything
+-- ---- a query gives nothing if none of its references sees anything
 
 -- some reference sees some row
 abbrev SeesSome : VisibleRows → Type 0
@@ -84,7 +84,7 @@ module _ (query : Query) (named : HasReferences query) (tables : List (List Peri
 
 -- ---- over all slices
 
--- what two lists hold together, one of them holds
+-- values that two lists hold together are held by one of them
 of_both
     : (xs ys : List PeriodRow) (day : ℤ) (row : List Value)
     → InSnapshot (xs ++ ys) day row → InSnapshot xs day row ⊎ InSnapshot ys day row
@@ -138,6 +138,7 @@ module _ (query : Query) (named : HasReferences query) (tables : List (List Peri
       (λ behind. in_right part (all_rows parts) day row
       (in_parts more border parts each day behind to row h))
 
+-- the answers of a query over slices are together its answer over the whole tables
 pub slices_make_the_whole : SlicesMakeTheWhole
 slices_make_the_whole query tables parts borders named each day row = (
   of_parts query named tables (slices_from _ borders) parts each day row,

@@ -1,4 +1,4 @@
--- What a window sees of the versions on a day is what a reference with that window sees.
+-- A window sees of the versions on a day the rows that a reference with that window sees.
 use Rattle.std.proofs.Common.{◌≡◌, ◌↔◌, ◌⊎◌, ◌&&◌, ◌<ℤ◌, ◌≤ℤ◌, ℕ, ℤ, Bool, cond, List, [], ◌∷◌, true, false, refl, ◌∙◌, ap, subst, inl, inr, arith, map}
 use Rattle.std.specs.Prelude.{int_le, int_lt}
 use Rattle.std.specs.List.{All, Contains, filter}
@@ -58,7 +58,7 @@ in_seen window (w ∷ ws) day v c s = go (is_seen window day w) refl (Contains-c
     go false e (inl same) rest = absurd (let t : is_seen window day w ≡ true = ap (is_seen window day) same ∙ s in cc)
     go false e (inr k) rest = rest k
 
--- what holds of all versions holds of a member
+-- a fact of all versions is one of each member
 member : (P : VersionRow → Type 0) (vs : List VersionRow) → All P vs → (v : VersionRow) → Contains vs v → P v
 member P [] all v c = absurd (Contains-nil v c)
 member P (w ∷ ws) all v c =
@@ -150,7 +150,7 @@ looked clock (Between a b) v m before r (i, j) h =
     both (int_le a b) (int_le v.from b && int_lt a v.to) (le_test a b (omega (arith, ints)))
     (both (int_le v.from b) (int_lt a v.to) (le_test v.from b (omega (arith, ints))) (lt_test a v.to (omega (arith, ints))))
 
--- what a window sees on a day of versions is what these hold at the moments that it looks at
+-- a window sees on a day the values that the versions hold at the moments that it covers
 pub seen_at_moments : (clock : ℤ) (versions : List VersionRow) → clock <ℤ forever → All (IsRecorded clock) versions → (day : ℤ) (state : ℤ → List (List Value))
     → ((moment : ℤ) → moment <ℤ forever → IsPermutation (values_at versions moment day) (state moment)) → (window : Window) (values : List Value)
     → (Contains (values_seen window versions day) values ↔ ((moment : ℤ) × (moment <ℤ forever) × CoversMoment window moment × Contains (state moment) values))
@@ -179,7 +179,7 @@ seen_at_moments clock versions before recorded day state daily window values = (
         subst (λ (z : List Value). Contains (values_seen window versions day) z) s.its
         (in_seen window versions day v s.there (both (window_sees window v.from v.to) (covers_day v.period.start v.period.end day) sees covers))
 
--- what a window sees on a day of a table's versions is what a reference with it sees
+-- a window sees on a day of a table's versions the rows that a reference with it sees
 pub shown_is_seen : (history : History) (database : Database) → IsRecord database → Represents history database → (window : Window) (table : ℕ) (day : ℤ) (values : List Value)
     → (Contains (values_seen window (versions_in database table) day) values ↔ SeesThrough history window day table values)
 shown_is_seen history database sound kept window table day values =

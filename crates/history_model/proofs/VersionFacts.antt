@@ -1,4 +1,5 @@
--- What versions hold as of a moment: those that began then, and those that have not ended.
+-- The values that versions hold as of a moment: those that began then, and those that have not
+-- ended.
 use Rattle.std.proofs.Common.{◌≡◌, ◌&&◌, ◌<ℤ◌, ◌≤ℤ◌, ℤ, Bool, true, false, cond, List, [], ◌∷◌, map, filter, inl, inr, refl, sym, ◌∙◌, ap, arith}
 use Rattle.std.specs.Prelude.{int_lt, int_le}
 use Rattle.std.specs.Ordering.{int_cmp, int_eq, is_eq}
@@ -59,14 +60,14 @@ itself a = go (int_eq a a) refl
 
 -- ---- rows that begin at a moment
 
--- the values of a row in front of others, where a test passes
+-- the values of a row in front of others, if a test passes
 one_more : {A B : Type 0} (f : A → B) (b : Bool) (x : A) (xs : List A) → map f (cond b (x ∷ xs) xs) ≡ cond b (f x ∷ map f xs) (map f xs)
 one_more f true x xs = refl
 one_more f false x xs = refl
 
 -- ---- the last moment
 
--- from the clock on a version is seen where it has not ended
+-- from the clock on a version is seen if it has not ended
 pub sees_later : (clock moment : ℤ) (v : VersionRow) → IsRecorded clock v → clock ≤ℤ moment → moment <ℤ forever → window_sees (AsOf moment) v.from v.to ≡ window_sees Now v.from v.to
 sees_later clock moment v r late before = elim r.ended [ inl e ↦ sees_on e | inr e ↦ sees_off e ]
   where
@@ -83,7 +84,7 @@ sees_later clock moment v r late before = elim r.ended [ inl e ↦ sees_on e | i
         let off : int_eq v.to forever ≡ true → ⊥ = λ t. let same : v.to ≡ forever = same_number v.to forever t in omega (arith, ints) in
         second_false (int_le v.from moment) (int_lt moment v.to) b ∙ sym (not_true (int_eq v.to forever) off)
 
--- what rows in front of others hold, where a test passes
+-- the values that rows in front of others hold, if a test passes
 shown_current : (day : ℤ) (now : Bool) (v : VersionRow) (more : List VersionRow) →
     values_on (map row_of (cond now (v ∷ more) more)) day
     ≡ cond now (cond (covers_day v.period.start v.period.end day) (v.values ∷ values_on (map row_of more) day) (values_on (map row_of more) day)) (values_on (map row_of more) day)

@@ -1,5 +1,5 @@
--- What references see decides what a query gives: where all of them see the same sets, so does the
--- query.
+-- The rows that references see decide a query's answer: if all of them see the same sets, so does
+-- the query.
 use Rattle.std.proofs.Common.{◌↔◌, inl, inr, List, [], ◌∷◌}
 use Rattle.std.specs.List.{Contains}
 use Rattle.std.proofs.lemmas.List.Elements.{Contains-append_left, Contains-append_right}

@@ -1,4 +1,4 @@
--- What a change makes of a table's set of rows on one day. A list is read as the set of its
+-- The set of a table's rows on one day after a change. A list is read as the set of its
 -- members.
 use Rattle.std.specs.Prelude.{◌==◌, ◌&&◌, ◌++◌, ℕ, ℤ, Bool, true, not, List, [], Option, Some, None}
 use Rattle.std.specs.Prelude.{filter, fold, map, slice_set, if◌then◌else◌}
@@ -15,7 +15,7 @@ use Rattle.catalog_core.specs.declared.change.Action.{Action}
 use Rattle.catalog_core.specs.declared.change.Action.TheVariants.{Delete, Insert, Update}
 use Rattle.catalog_core.specs.declared.change.Change.{Change}
 
--- where a row comes from: it was there, or it is the i-th row that the change gives
+-- the origin of a row: it was there, or it is the i-th row that the change gives
 pub data Origin : Type 0 where
   Kept : (values : List Value) → Origin
   Given : (i : ℕ) → Origin

@@ -1,4 +1,4 @@
--- What the tables held at each moment: an opening, and what was done since.
+-- The tables at each moment: an opening, and the events since.
 use Rattle.std.specs.Prelude.{◌≡◌, ◌++◌, ◌∷◌, ◌<ℤ◌, ◌≤ℤ◌, ℕ, zero, suc, ℤ, List, [], Option, Some}
 use Rattle.std.specs.Prelude.{None, filter_map, fold, int_le, slice_index_or, cond}
 use Rattle.std.specs.List.{All}
@@ -10,8 +10,8 @@ use Rattle.catalog_core.specs.declared.table.TableDef.{TableDef}
 use Rattle.history_model.specs.Effects.{effect}
 use Rattle.history_model.specs.Versions.{IsRecorded, last_moment, values_at}
 
--- what is kept: the clock, the tables' definitions in the order of their creation, and in the same
--- places their versions
+-- the contents of a database: the clock, the tables' definitions in the order of their creation,
+-- and in the same places their versions
 pub record Database : Type 0 where
   pub clock : ℤ
   pub catalog : List TableDef
@@ -21,19 +21,19 @@ pub record Database : Type 0 where
 abbrev pub new_database : Database
 new_database = record { clock = first_moment; catalog = []; versions = [] }
 
--- the versions of the table of a number, which counts from 1; a table that is not there has none
+-- the versions of the table of a number, which counts from 1; a table that is missing has none
 abbrev pub versions_in : Database → ℕ → List VersionRow
 versions_in database zero = []
 versions_in database (suc place) = slice_index_or database.versions place []
 
--- what an accepted statement did; a change with its moment, the clock as it was made
+-- an accepted statement; a change with its moment, the clock as it was made
 pub data Event : Type 0 where
   Advanced : (moment : ℤ) → Event
   Created : (definition : TableDef) → Event
   Changed : (moment : ℤ) (change : Change) → Event
   Queried : Event
 
--- what there was at first, and what was done since, the oldest first
+-- the opening of a database, and the events since, the oldest first
 pub record History : Type 0 where
   pub opening : Database
   pub events : List Event

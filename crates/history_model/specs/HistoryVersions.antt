@@ -1,4 +1,4 @@
--- The versions that a history leaves, change by change. No state tells how rows are cut into
+-- The versions that a history leaves, change by change. No state says how rows are cut into
 -- periods: this does.
 use Rattle.std.specs.Prelude.{◌==◌, ◌&&◌, ◌++◌, ◌∷◌, ℕ, ℤ, Bool, true, false, List, []}
 use Rattle.std.specs.Prelude.{IsPermutation, filter, flat_map, fold, map, if◌then◌else◌}
@@ -13,7 +13,7 @@ use Rattle.history_model.specs.Histories.{versions_in}
 use Rattle.history_model.specs.Portions.{PlainRow, added, touches}
 use Rattle.history_model.specs.Versions.{PlainVersion, plain_version}
 
--- ---- what a change makes of versions
+-- ---- the versions that a change leaves and adds
 
 -- a version without its system time
 abbrev pub its_row : PlainVersion → PlainRow
@@ -23,11 +23,11 @@ its_row v = record { values = v.values; start = v.start; end = v.end }
 abbrev pub is_touched : Action → PlainVersion → Bool
 is_touched action v = window_sees Now v.from v.to && touches action (its_row v)
 
--- a version that is closed at a moment ends then; where it began then it is not kept
+-- a version that is closed at a moment ends then; if it began then it is not kept
 abbrev pub closed_at : ℤ → PlainVersion → List PlainVersion
 closed_at moment v = if int_eq v.from moment then [] else record v { to = moment } ∷ []
 
--- what is left of a version: closed at the moment where it is touched, and else as it was
+-- the rest of a version: closed at the moment if it is touched, and else as it was
 abbrev pub remains_of : ℤ → Action → PlainVersion → List PlainVersion
 remains_of moment action v = if is_touched action v then closed_at moment v else v ∷ []
 
@@ -45,14 +45,14 @@ begun_at moment row = record {
 abbrev pub touched_rows : Action → List PlainVersion → List PlainRow
 touched_rows action versions = map its_row (filter (is_touched action) versions)
 
--- what an action makes of a table's versions at a moment: those that it touches are closed, and
+-- a table's versions after an action at a moment: those that it touches are closed, and
 -- the rows that it adds begin
 abbrev pub versions_after : ℤ → Action → List PlainVersion → List PlainVersion
 versions_after moment action versions =
     flat_map (remains_of moment action) versions
     ++ map (begun_at moment) (added action (touched_rows action versions))
 
--- ---- what a history leaves
+-- ---- the versions that a history leaves
 
 -- a table's versions after an event: a change of another table leaves them
 abbrev pub after_event : ℕ → List PlainVersion → Event → List PlainVersion

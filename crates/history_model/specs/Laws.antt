@@ -1,4 +1,4 @@
--- What one more event makes of a history. Each law is the contract of a function of this crate.
+-- Histories with one more event. Each law is the contract of a function of this crate.
 use Rattle.std.specs.Prelude.{◌≡◌, ◌↔◌, ◌++◌, ◌∷◌, ◌≤ℤ◌, ◌<ℤ◌, [], ℕ, ℤ, List, Contains}
 use Rattle.std.specs.Prelude.{IsPermutation, map}
 use Rattle.std.specs.List.{All}
@@ -22,11 +22,11 @@ use Rattle.history_model.specs.Versions.{IsRecorded, current, row_of, values_at,
 abbrev pub KeepsClock : History → Event → Type 0
 KeepsClock history event = clock_of (with_event history event) ≡ clock_of history
 
--- so is the catalog
+-- the catalog is as before
 abbrev pub KeepsCatalog : History → Event → Type 0
 KeepsCatalog history event = catalog_of (with_event history event) ≡ catalog_of history
 
--- so is the state at each moment
+-- the state at each moment is as before
 abbrev pub KeepsStates : History → Event → Type 0
 KeepsStates history event =
     (moment : ℤ) (table : ℕ) (day : ℤ)
@@ -36,8 +36,8 @@ KeepsStates history event =
 abbrev pub OpeningsAreRepresented : Type 0
 OpeningsAreRepresented = (database : Database) → Represents (opened database) database
 
--- what is kept represents the history with one more change, as of every moment; it is as a store
--- may have it, and what the history leaves
+-- a changed database represents the history with one more change, as of every moment; it is as a
+-- store may have it, and what the history leaves
 abbrev pub ChangesAreRepresented : Type 0
 ChangesAreRepresented =
     (history : History) (old new : Database) (change : Change) → IsChangedBy change old new
@@ -60,7 +60,7 @@ HistoriesLeaveOneList =
     → AreVersionsOf history table versions → AreVersionsOf history table others
     → IsPermutation versions others
 
--- what a reference sees through a window, of the versions that are kept, is each row of the states
+-- a reference sees through a window, of the versions that are kept, each row of the states
 -- that the window looks at, and nothing else
 abbrev pub WindowsSeeStates : Type 0
 WindowsSeeStates =
@@ -69,7 +69,7 @@ WindowsSeeStates =
     → (Contains (values_seen window (versions_in database table) day) values
     ↔ SeesThrough history window day table values)
 
--- where the versions are as a store with this clock may have them, the current ones hold on each
+-- if the versions are as a store with this clock may have them, the current ones hold on each
 -- day what all of them hold as of the clock, and as of each later moment
 abbrev pub CurrentVersionsHold : Type 0
 CurrentVersionsHold =

@@ -17,8 +17,8 @@ use Rattle.history_model.specs.Versions.{values_at, values_seen}
 abbrev pub moved_version : VersionRow → VersionRow
 moved_version v = record v { from = second_start v.from; to = moved_end v.to }
 
--- what was kept in seconds, in moments: the clock and the system time of each version; the tables
--- are the same
+-- a database that was kept in seconds, in moments: the clock and the system time of each version;
+-- the tables are the same
 abbrev pub moved : Database → Database
 moved database = record {
   clock = second_start database.clock;
@@ -26,7 +26,7 @@ moved database = record {
   versions = map (map moved_version) database.versions;
 }
 
--- ---- what the versions held, and what windows saw of them, in seconds
+-- ---- the values that versions held, and that windows saw of them, in seconds
 
 -- whether a window in seconds sees a version from `from` on and before `to`, with the open end that
 -- it had then
@@ -79,7 +79,7 @@ MovedWindowsStay =
     → values_seen (moved_window window) (versions_in (moved database) table) day
     ≡ values_seen_then window (versions_in database table) day
 
--- what a store in seconds might keep opens, in moments, a history in order
+-- an opening that a store in seconds might keep is, in moments, a history in order
 abbrev pub MovedOpeningsAreInOrder : Type 0
 MovedOpeningsAreInOrder =
     (database : Database) → database.clock <ℤ last_second

@@ -33,7 +33,8 @@ InProduct Sees (reference ∷ more) values =
 abbrev pub meets_all : List (Tree CompareValues) → List Value → Bool
 meets_all conjuncts values = list_all (λ condition. meets condition values) conjuncts
 
--- what a select list reads in a row: at each item's position a value, if the row has one there
+-- the values that a select list reads in a row: at each item's position one, if the row has one
+-- there
 abbrev pub read_items : List AnswerColumn → List Value → List (Option Value)
 read_items items values = map (λ (item : AnswerColumn). slice_get values item.position) items
 
@@ -48,7 +49,7 @@ InSelect Sees select row =
     × InProduct Sees select.references values × IsTrue (meets_all select.conjuncts values)
     × IsProjection select.items values row
 
--- what a set operator makes of two sets
+-- the set that a set operator gives of two sets
 abbrev pub InCombined
     : SetOperator → (List Value → Type 0) → (List Value → Type 0) → List Value → Type 0
 InCombined Union Left Right row = Left row ⊎ Right row
@@ -63,7 +64,7 @@ InQuery Sees (both operator left right) row =
 
 -- ---- over lists of period rows
 
--- what a reference sees on a day: the snapshot of the list in its place
+-- the rows that a reference sees on a day: the snapshot of the list in its place
 abbrev pub VisibleInTables : List (List PeriodRow) → ℤ → VisibleRows
 VisibleInTables tables day reference values = InSnapshot (rows_for tables reference) day values
 
@@ -73,7 +74,7 @@ InAnswerOver query tables day row = InQuery (VisibleInTables tables day) query r
 
 -- ---- over a history
 
--- what a reference sees on a day, through its window
+-- the rows that a reference sees on a day, through its window
 abbrev pub VisibleInHistory : History → ℤ → VisibleRows
 VisibleInHistory history day reference values =
     SeesThrough history reference.window day reference.table values

@@ -1,4 +1,4 @@
--- Which rows a change touches, and which rows begin in their place: over periods, and not day by
+-- The rows that a change touches, and those that begin in their place: over periods, and not day by
 -- day.
 use Rattle.std.specs.Prelude.{◌&&◌, ◌++◌, ◌∷◌, ℤ, Bool, true, false, List, [], Option, Some, None}
 use Rattle.std.specs.Prelude.{flat_map, int_lt, map, if◌then◌else◌}
@@ -18,10 +18,12 @@ pub record PlainRow : Type 0 where
   pub start : ℤ
   pub end : ℤ
 
+-- a period row, as a plain row
 abbrev pub plain_row : PeriodRow → PlainRow
 plain_row row =
     record { values = row.values; start = row.period.start; end = row.period.end }
 
+-- a row of an INSERT, as a plain row
 abbrev pub plain_given : InsertedRow → PlainRow
 plain_given given = record { values = given.values; start = given.start; end = given.end }
 
@@ -39,7 +41,7 @@ touches (Update portion assignments condition) row =
 touches (Delete portion condition) row =
     meets_portion portion row && meets_any condition row.values
 
--- values from a day on and before an end, where there is such a day
+-- values from a day on and before an end, if there is such a day
 abbrev pub part : List Value → ℤ → ℤ → List PlainRow
 part values start end =
     if int_lt start end then record { values = values; start = start; end = end } ∷ [] else []

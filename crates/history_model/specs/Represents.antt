@@ -1,4 +1,4 @@
--- When a database represents a history, and what a change makes of it.
+-- Databases that represent a history, and the database after a change.
 use Rattle.std.specs.Prelude.{◌≡◌, ◌==◌, ◌<ℤ◌, ℕ, ℤ, IsPermutation, length}
 use Rattle.std.specs.List.{All}
 use Rattle.period_core.specs.Moments.{forever}
@@ -8,7 +8,7 @@ use Rattle.history_model.specs.Histories.{versions_in}
 use Rattle.history_model.specs.HistoryVersions.{AreVersionsOf, AppliesActionIf}
 use Rattle.history_model.specs.Versions.{IsRecorded, values_at}
 
--- what is kept is what the history says: its clock, its tables, and as of each moment on each day
+-- the database keeps the history: its clock, its tables, and as of each moment on each day
 -- the rows of each table, each as often
 pub record Represents (history : History) (database : Database) : Type 0 where
   pub clock : database.clock ≡ clock_of history
@@ -17,7 +17,7 @@ pub record Represents (history : History) (database : Database) : Type 0 where
       → IsPermutation
       (values_at (versions_in database table) moment day) (state_at history moment table day)
 
--- what is kept of each table is what the history leaves of it, up to its order
+-- the versions of each table are those that the history leaves of it, up to their order
 abbrev pub HasVersionsOf : History → Database → Type 0
 HasVersionsOf history database =
     (table : ℕ) → AreVersionsOf history table (versions_in database table)

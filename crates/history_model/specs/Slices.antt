@@ -1,4 +1,4 @@
--- What a query gives over slices of the days: where tables are cut at borders between days.
+-- Answers of a query over slices of the days: the tables are cut at borders between days.
 use Rattle.std.specs.Prelude.{◌↔◌, ◌≢◌, ◌≤ℤ◌, ◌<ℤ◌, ◌++◌, ℤ, List, [], ◌∷◌}
 use Rattle.std.specs.List.{AllZip}
 use Rattle.period_core.specs.Calendar.{first_day, last_day}
@@ -14,6 +14,7 @@ pub record Slice : Type 0 where
   pub first : ℤ
   pub next : ℤ
 
+-- the day is in the slice
 abbrev pub InSlice : Slice → ℤ → Type 0
 InSlice slice day = (slice.first ≤ℤ day) × (day <ℤ slice.next)
 

@@ -1,4 +1,4 @@
--- What a table reference sees through its FOR SYSTEM_TIME, in a history's states.
+-- The rows that a table reference sees through its FOR SYSTEM_TIME, in a history's states.
 use Rattle.std.specs.Prelude.{◌≡◌, ◌≤ℤ◌, ◌<ℤ◌, ℕ, ℤ, List, Contains}
 use Rattle.period_core.specs.Moments.{forever}
 use Rattle.period_core.specs.declared.value.Value.{Value}
@@ -14,7 +14,7 @@ CoversMoment (AsOf at) moment = moment ≡ at
 CoversMoment (FromTo start end) moment = (start ≤ℤ moment) × (moment <ℤ end)
 CoversMoment (Between start last) moment = (start ≤ℤ moment) × (moment ≤ℤ last)
 
--- what a reference sees through a window on a day: each row that its table had on it at some
+-- a row that a reference sees through a window on a day: one that its table had on it at some
 -- moment, before FOREVER, that the window covers
 abbrev pub SeesThrough : History → Window → ℤ → ℕ → List Value → Type 0
 SeesThrough history window day table values =

@@ -23,7 +23,7 @@ abbrev pub values_seen : Window → List VersionRow → ℤ → List (List Value
 values_seen window versions day =
     map (λ (v : VersionRow). v.values) (filter (is_seen window day) versions)
 
--- what the versions hold on a day as of a moment
+-- the values that the versions hold on a day as of a moment
 abbrev pub values_at : List VersionRow → ℤ → ℤ → List (List Value)
 values_at versions moment day = values_seen (AsOf moment) versions day
 
@@ -50,6 +50,7 @@ pub record PlainVersion : Type 0 where
   pub from : ℤ
   pub to : ℤ
 
+-- a version, as a plain version
 abbrev pub plain_version : VersionRow → PlainVersion
 plain_version v = record {
   values = v.values;

@@ -1,4 +1,4 @@
-//! What the tables held at each moment: what a change makes of a day and of versions, the histories
+//! The tables at each moment: a day and versions after a change, the histories
 //! of a store and their states, what windows see, and the ordinary query on a day. The definitions
 //! are in `specs/`; each function here does nothing, and its contract is a law over them. A new
 //! form of change gets its clauses in `specs/Effects` and `specs/Portions`, a new form of query its
@@ -21,7 +21,7 @@ pub fn openings_are_represented()
     ensures { OpeningsAreRepresented }
 {}
 
-/// Where a change is made, what is kept represents the history with one more change. The
+/// A changed database represents the history with one more change. The
 /// versions stay as a store may have them, and those that the history leaves.
 pub fn changes_are_represented()
     ensures { ChangesAreRepresented }
@@ -38,7 +38,7 @@ pub fn histories_leave_one_list()
     ensures { HistoriesLeaveOneList }
 {}
 
-/// What a table reference sees through its FOR SYSTEM_TIME is what its table had at the moments
+/// A table reference sees through its FOR SYSTEM_TIME the rows that its table had at the moments
 /// that the window looks at. Without FOR SYSTEM_TIME that is the last moment, the one before
 /// FOREVER.
 pub fn windows_see_states()
@@ -83,7 +83,7 @@ pub fn slices_make_the_whole()
     ensures { SlicesMakeTheWhole }
 {}
 
-/// What a store kept that counted in whole seconds holds the same once its moments are moved to
+/// A store that counted in whole seconds holds the same once its moments are moved to
 /// microseconds, and its open end to FOREVER: at each whole second before that open end on each
 /// day, in each table, and through each system-time window that begins before it, whose seconds
 /// are the moments at which they begin. A window may end with the old open end, which as a whole

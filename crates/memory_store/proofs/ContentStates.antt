@@ -18,7 +18,7 @@ set_twice [] t y z = refl
 set_twice (x ∷ xs) zero y z = refl
 set_twice (x ∷ xs) (suc t) y z = ap (λ l. x ∷ l) (set_twice xs t y z)
 
--- what was written over is written back
+-- an overwritten element is written back
 pub set_back : {X : Type 0} (xs : List X) (t : ℕ) (y z d : X) → z ≡ get_or xs t d → set (set xs t y) t z ≡ xs
 set_back xs t y z d is = set_twice xs t y z ∙ ap (set xs t) is ∙ set-get_or xs t d
 

@@ -128,7 +128,7 @@ module _ (log : List LogEntry) (at : ℕ) (h : IsNewestSavepoint log at) (s : Co
       ap (λ ms. get_or ms (length ms - 1) snapshot) marks_split
       ∙ last_pushed (marked (take at log) (before_all post s)) (state_snapshot (before_all post s)) snapshot
 
--- so many entries stay, and the others are undone
+-- so many entries stay, and the rest are undone
 pub undone_base : (log : List LogEntry) (n : ℕ) (s : ContentState) → before_all (take n log) (before_all (drop n log) s) ≡ before_all log s
 undone_base log n s = sym (before_append (take n log) (drop n log) s) ∙ ap (λ us. before_all us s) (take-append-drop n log)
 

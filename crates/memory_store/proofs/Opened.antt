@@ -1,4 +1,4 @@
--- What an open finds in a database with no object.
+-- The opening of a database that has no object.
 use Rattle.std.proofs.Common.{◌≡◌, ◌∙◌, List, [], ◌∷◌, inl, inr, refl, subst}
 use Rattle.std.specs.List.{AllZip}
 use Rattle.sqlite_trees.specs.declared.error.StoreError.{StoreError}
@@ -22,7 +22,7 @@ zip_none : {A B : Type 0} (R : A → B → Type 0) (ys : List B) → AllZip R []
 zip_none R [] h = refl
 zip_none R (y ∷ ys) h = absurd h
 
--- it lists no table, no index and no view
+-- the schema lists no table, no index and no view
 pub lists_none : (schema : Schema) (db : Trees) → db catalog_tree ≡ [] → IsSound schema db → schema ≡ none
 lists_none schema db empty sound =
     let listed = subst (λ objects. AreListed objects schema) empty sound.lists.listed in

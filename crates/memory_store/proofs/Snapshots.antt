@@ -17,7 +17,7 @@ use Rattle.memory_store.specs.declared.tree.StoredTree.{StoredTree}
 use Rattle.memory_store.specs.declared.content.Content.{Content}
 use Rattle.memory_store.specs.Content.{HasPlaced, MayList, heading, rows_of, snapshot, snapshot_in, with_edit, with_listed, with_object}
 
--- ---- what is at a number
+-- ---- the tree of a number
 
 pub place_of : (trees : List StoredTree) (t : ℕ) (x : StoredTree) → t < length trees → x ≡ get_or trees t x
     → (get_or (map heading trees) t no_heading ≡ heading x) × (rows_of trees t ≡ x.rows)
@@ -160,7 +160,7 @@ snapshot_longer trees version x absent empty =
       reals = set_at (set_at (λ k. reals_unless_absent (each k i).0 (each k i).1) catalog_tree 0) version_tree 0;
     }
 
--- a tree was put in its place, where there is room
+-- a tree was put in its place, if there is room
 pub snapshot_placed : (old new : Content) (t : ℕ) (it : StoredTree) → t < 2 ^ 32 → (placed : HasPlaced old new t it) → it.rows ≡ []
     → (shape : Shape) (reals : ℕ) → it.shape ≡ shape → reals_unless_absent it.shape it.reals ≡ reals
     → (edit : List Row → List Row) → objects_from 0 (set (map heading placed.room) t (heading it)) ≡ edit (objects_from 0 (map heading placed.room))

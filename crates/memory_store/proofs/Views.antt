@@ -1,4 +1,4 @@
--- The view of the store after a call.
+-- The view of the store after a call: what is written, committed, and left to a cursor.
 use Rattle.std.proofs.Common.{◌<◌, ◌≡◌, ◌∙◌, [], Bool, List, None, Some, ap, cond, eq-eqb, eqb, false, get_or, inl, inr, length, ne_eqb, option_map, refl, set, sym, true, ℕ}
 use Rattle.std.specs.Vec.{with_item}
 use Rattle.std.proofs.lemmas.Bool.{cases_eq}

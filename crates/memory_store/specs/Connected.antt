@@ -7,7 +7,7 @@ use Rattle.sqlite.specs.State.{HasCleanDisk}
 use Rattle.memory_store.specs.declared.store.MemoryStore.{MemoryStore}
 use Rattle.memory_store.specs.Memory.{memory_view}
 
--- what the store gives for each member of `Store`
+-- the members of `Store`, for a store in memory
 abbrev pub over_memory : Ghosts MemoryStore
 over_memory = record {
   view = memory_view;

@@ -13,7 +13,7 @@ use Rattle.sqlite_trees.specs.View.{Snapshot}
 use Rattle.memory_store.specs.declared.content.Content.{Content}
 use Rattle.memory_store.specs.declared.tree.StoredTree.{StoredTree}
 
--- its shape, its REAL columns and its description
+-- the shape of a tree, its REAL columns and its description
 abbrev pub heading : StoredTree → Heading
 heading t = (t.shape, t.reals, t.described)
 
@@ -25,7 +25,7 @@ rows_of trees t = slice_index_or (map (λ tree. tree.rows) trees) t []
 abbrev pub snapshot_in : List StoredTree → ℕ → Snapshot
 snapshot_in trees version = snapshot_of (map heading trees) (rows_of trees) version
 
--- the same of a content
+-- the snapshot of a content
 abbrev pub snapshot : Content → Snapshot
 snapshot c = snapshot_in c.trees.items c.version
 

@@ -64,7 +64,7 @@ before (Relisted t described reals) s =
     record s { headings = slice_set s.headings t (shape_in s.headings t, reals, described) }
 before (Version version) s = record s { version = version }
 
--- the state before all of these changes, the newest last
+-- the state before all of the changes, the newest last
 abbrev pub before_all : List LogEntry → ContentState → ContentState
 before_all [] s = s
 before_all (u ∷ more) s = before u (before_all more s)
@@ -74,7 +74,7 @@ abbrev pub is_savepoint : LogEntry → Bool
 is_savepoint Savepoint = true
 is_savepoint _ = false
 
--- what each savepoint goes back to
+-- the snapshot that each savepoint returns to
 abbrev pub marked : List LogEntry → ContentState → List Snapshot
 marked [] s = []
 marked (Savepoint ∷ more) s = state_snapshot (before_all more s) ∷ marked more s

@@ -44,11 +44,11 @@ content_is_listed : (c : Content)
     → IsListed ((snapshot c).trees catalog_tree) (snapshot c).shape (snapshot c).reals
 content_is_listed c = objects_are_listed (map heading c.trees.items)
 
--- so have those of each tree of a store in memory
+-- the rows of each tree of a store in memory are in order too
 pub memory_is_ordered : (s : MemoryStore) → IsOrdered (memory_view s).shape (memory_view s).trees
 memory_is_ordered s = content_is_ordered s.logged.content
 
--- and its list of objects is that of its trees
+-- the list of objects of a store in memory is its trees' list
 pub memory_is_listed : (s : MemoryStore)
     → IsListed ((memory_view s).trees catalog_tree) (memory_view s).shape (memory_view s).reals
 memory_is_listed s = content_is_listed s.logged.content

@@ -4,11 +4,11 @@ use Rattle.sqlite_trees.specs.View.{Snapshot}
 use Rattle.memory_store.specs.declared.logged_content.LoggedContent.{LoggedContent}
 use Rattle.memory_store.specs.ContentStates.{ContentState, before_all, marked, state_of}
 
--- how the last commit left the content
+-- the content as the last commit left it
 abbrev pub base : LoggedContent → ContentState
 base h = before_all h.log.items (state_of h.content)
 
--- what each savepoint goes back to, the newest last
+-- the snapshots to which the savepoints go back, the newest last
 abbrev pub marks : LoggedContent → List Snapshot
 marks h = marked h.log.items (state_of h.content)
 

@@ -14,7 +14,7 @@ use Rattle.memory_store.specs.ContentStates.{state_snapshot}
 abbrev pub left_in : Content → Cursor → List Row
 left_in content cursor = left cursor.place ((snapshot content).trees cursor.tree)
 
--- It is always clean, open and sound.
+-- A store in memory is always clean, open and sound.
 abbrev pub memory_view : MemoryStore → View
 memory_view s = record {
   trees = (snapshot s.logged.content).trees;

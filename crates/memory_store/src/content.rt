@@ -62,7 +62,7 @@ impl Content {
         count
     }
 
-    /// What a seek in the tree with this number leaves to read.
+    /// The rows that a seek in the tree with this number leaves to read.
     pub(crate) fn seek(
         &self,
         alloc: Global,
@@ -81,7 +81,7 @@ impl Content {
     }
 
     /// Writes the next row of a cursor in the tree with this number over `row`, and moves past it,
-    /// or answers false where none is left.
+    /// or answers false if none is left.
     pub(crate) fn next(
         &self,
         tree: u32,

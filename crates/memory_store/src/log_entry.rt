@@ -1,4 +1,4 @@
-//! What takes back one change of a content.
+//! An entry of the log, which takes back one change of a content.
 
 ghost use Rattle.std.specs.Prelude.{◌≡◌};
 
@@ -17,11 +17,11 @@ pub(crate) enum LogEntry {
     Rows(u32, RowsUndo),
     /// One more number was made.
     SlotAdded,
-    /// This tree had the number.
+    /// The tree that had the number.
     Replaced(u32, StoredTree),
     /// The tree with this number had this description and these REAL columns.
     Relisted(u32, Row, u64),
-    /// This was the version.
+    /// The version of the schema.
     Version(u32),
 }
 

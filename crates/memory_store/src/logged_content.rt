@@ -1,4 +1,4 @@
-//! A content that is changed in place, and the log that takes its changes back.
+//! Trees that are changed in place, with their undo log.
 
 ghost use Rattle.std.specs.Prelude.{◌≡◌, ◌≢◌, ◌≤◌, ◌++◌, ◌+◌, ◌-◌, [], ◌∷◌};
 ghost use Rattle.std.specs.Prelude.{MatchOption, OnErr, OnOk, false};
@@ -20,7 +20,7 @@ use std::alloc::{AllocError, Global};
 use std::mem;
 
 /// The content as the transaction sees it, and the undo log, the newest entry last: undone to its
-/// start, it gives what was last committed, and to a savepoint what that goes back to.
+/// start, it gives what was last committed, and to a savepoint what that returns to.
 #[derive(Drop)]
 pub(crate) struct LoggedContent {
     pub content: Content,
@@ -163,7 +163,7 @@ impl LoggedContent {
         relisted
     }
 
-    // The same; on an error some may be listed.
+    // Lists each of the trees; on an error some may be listed.
     fn relist_each(
         &mut self,
         alloc: Global,
@@ -257,7 +257,7 @@ impl LoggedContent {
         }
     }
 
-    /// Goes back to the newest savepoint, which stays, or answers false where there is none.
+    /// Returns to the newest savepoint, which stays, or answers false if there is none.
     pub(crate) fn rollback_to(&mut self) -> bool
         ensures none { marks self.old ≡ [] → result ≡ false }
         ensures same { result ≡ false → self.new ≡ self.old }
@@ -273,7 +273,7 @@ impl LoggedContent {
         true
     }
 
-    /// Goes back to the last commit.
+    /// Returns to the last commit.
     pub(crate) fn rollback(&mut self)
         ensures content { state_of self.new.content ≡ base self.old }
         ensures log { self.new.log.items ≡ [] }

@@ -15,7 +15,7 @@ fn is_out_of_memory(error: &Error) -> bool
     matches!(error, Error::SqliteFailure(ErrorCode::OutOfMemory))
 }
 
-/// A connection to an empty database. It fails only where it is out of memory.
+/// A connection to an empty database. It fails only if it is out of memory.
 pub fn open_in_memory(alloc: Global) -> Result<Connection<MemoryStore>, AllocError>
     ensures empty { IfOk result (λ connection. IsEmpty (state over_memory connection)) }
     ensures fresh { IfOk result IsNew }

@@ -1,4 +1,4 @@
-//! One tree: its rows, and how it is listed.
+//! One tree: its rows, and its schema entry.
 
 ghost use Rattle.std.specs.Prelude.{◌≡◌, [], IfOk, OnErr, take, ◌<◌, ◌^◌};
 ghost use Rattle.sqlite_trees.specs.Objects.{description, listing};
@@ -13,7 +13,8 @@ use sqlite_value::row::Row;
 use sqlite_value::value::ValueRef;
 use std::alloc::{AllocError, Global};
 
-/// Its shape, its REAL columns and its description are its heading. The rows have that shape.
+/// A tree of rows. Its shape, its REAL columns and its description are its heading. The rows have
+/// that shape.
 #[derive(Drop)]
 pub(crate) struct StoredTree {
     pub shape: Shape,
@@ -41,7 +42,7 @@ impl StoredTree {
         })
     }
 
-    /// What a number has that names no tree.
+    /// The tree of a number that names none.
     pub(crate) fn absent(alloc: Global) -> StoredTree
         ensures heading { heading result ≡ (Shape.Absent, 0, []) }
         ensures rows { result.rows ≡ [] }
@@ -54,7 +55,7 @@ impl StoredTree {
         }
     }
 
-    /// Its rowid in `sqlite_schema`, type, name, table and SQL text.
+    /// The entry of the tree in `sqlite_schema`: rowid, type, name, table and SQL text.
     pub(crate) fn listing(&self, alloc: Global, tree: usize) -> Result<Row, AllocError>
         requires { tree < 2 ^ 62 }
         ensures { IfOk result (λ row. row ≡ take 5

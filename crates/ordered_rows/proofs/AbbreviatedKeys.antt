@@ -1,4 +1,4 @@
--- What the abbreviated keys of two rows say of their order.
+-- The order of two rows, by their abbreviated keys.
 use Rattle.std.proofs.Common.{◌≡◌, ◌<◌, ◌+◌, ◌*◌, ◌∙◌, ℕ, ℤ, zero, suc, List, [], ◌∷◌, Some, refl, sym, ap, subst, arith, get_or, Ordering, Less, Equal, Greater, int_cmp, nat_cmp}
 use Rattle.std.specs.Ordering.{MatchOrdering, ordering_reverse, ordering_then}
 use Rattle.std.specs.Cmp.{ranks}
@@ -34,7 +34,7 @@ rises (suc k) a b (x ∷ s) (y ∷ t) fit less =
     let small : x < 256 = fit 0 in
     rises k (a * 256 + x) (b * 256 + y) s t (λ at. fit (suc at)) (omega (arith, less, small))
 
--- what ends is not above what goes on
+-- a list that ends is not above one that continues
 not_less : (s : List ℕ) → slice_cmp nat_cmp s [] ≡ Less → ⊥
 not_less [] h = cc
 not_less (x ∷ s) h = cc
@@ -81,16 +81,16 @@ record Begins (n : ℤ) (byte number : ℕ) (row : Row) : Type 0 where
   spells : number ≡ spelled 8 0 more
   fit : AreBytes more
 
--- what the abbreviated key decides, the values do
-chain_tells : (first byte number bytes others o : Ordering) → ((number ≡ Equal → ⊥) → bytes ≡ number) → ordering_then (ordering_then first byte) number ≡ o → (o ≡ Equal → ⊥)
+-- if the abbreviated key decides, the values do
+chain_decides : (first byte number bytes others o : Ordering) → ((number ≡ Equal → ⊥) → bytes ≡ number) → ordering_then (ordering_then first byte) number ≡ o → (o ≡ Equal → ⊥)
     → ordering_then first (ordering_then (ordering_then byte bytes) others) ≡ o
-chain_tells Less byte number bytes others o step e tells = e
-chain_tells Greater byte number bytes others o step e tells = e
-chain_tells Equal Less number bytes others o step e tells = e
-chain_tells Equal Greater number bytes others o step e tells = e
-chain_tells Equal Equal Less bytes others o step e tells = ap (λ r. ordering_then r others) (step (λ h. cc)) ∙ e
-chain_tells Equal Equal Equal bytes others o step e tells = absurd (tells (sym e))
-chain_tells Equal Equal Greater bytes others o step e tells = ap (λ r. ordering_then r others) (step (λ h. cc)) ∙ e
+chain_decides Less byte number bytes others o step e tells = e
+chain_decides Greater byte number bytes others o step e tells = e
+chain_decides Equal Less number bytes others o step e tells = e
+chain_decides Equal Greater number bytes others o step e tells = e
+chain_decides Equal Equal Less bytes others o step e tells = ap (λ r. ordering_then r others) (step (λ h. cc)) ∙ e
+chain_decides Equal Equal Equal bytes others o step e tells = absurd (tells (sym e))
+chain_decides Equal Equal Greater bytes others o step e tells = ap (λ r. ordering_then r others) (step (λ h. cc)) ∙ e
 
 begun : (row : Row) (n : ℤ) (byte number : ℕ) → abbreviated_by (column row 0) (column row 1) ≡ IntegerAndBlob byte n number → AreBytes (bytes (column row 1)) → Begins n byte number row
 begun [] n byte number e fit = absurd (cc)
@@ -112,24 +112,24 @@ entry_begun m n s t a b = rw (first_key-plain, value_cmp-Int, value_cmp-Blob) re
 prefix_begun : (m n : ℤ) (s t : List ℕ) (a b : Row) → prefix_cmp plain (Int m ∷ Blob s ∷ a) (Int n ∷ Blob t ∷ b) ≡ ordering_then (int_cmp m n) (ordering_then (slice_cmp nat_cmp s t) (prefix_cmp plain a b))
 prefix_begun m n s t a b = rw (first_key-plain, value_cmp-Int, value_cmp-Blob) refl
 
-abbrev pub Told : Ordering → Row → Row → Type 0
-Told o a b = (entry_cmp plain a b ≡ o) × (prefix_cmp plain a b ≡ o)
+abbrev pub DecidedBy : Ordering → Row → Row → Type 0
+DecidedBy o a b = (entry_cmp plain a b ≡ o) × (prefix_cmp plain a b ≡ o)
 
-both_begun : {m n : ℤ} {x y p q : ℕ} (a b : Row) (o : Ordering) → Begins m x p a → Begins n y q b → ordering_then (ordering_then (int_cmp m n) (nat_cmp x y)) (nat_cmp p q) ≡ o → (o ≡ Equal → ⊥) → Told o a b
+both_begun : {m n : ℤ} {x y p q : ℕ} (a b : Row) (o : Ordering) → Begins m x p a → Begins n y q b → ordering_then (ordering_then (int_cmp m n) (nat_cmp x y)) (nat_cmp p q) ≡ o → (o ≡ Equal → ⊥) → DecidedBy o a b
 both_begun {m} {n} {x} {y} {p} {q} a b o begins starts e tells =
     let step : (nat_cmp p q ≡ Equal → ⊥) → slice_cmp nat_cmp begins.more starts.more ≡ nat_cmp p q =
     λ apart. by_number 8 begins.more starts.more begins.fit starts.fit (nat_cmp p q) ((λ i. nat_cmp (sym begins.spells i) (sym starts.spells i))) apart in (
-      rw (begins.is, starts.is) (entry_begun m n (x ∷ begins.more) (y ∷ starts.more) begins.others starts.others ∙ chain_tells (int_cmp m n) (nat_cmp x y) (nat_cmp p q) _ _ o step e tells),
-      rw (begins.is, starts.is) (prefix_begun m n (x ∷ begins.more) (y ∷ starts.more) begins.others starts.others ∙ chain_tells (int_cmp m n) (nat_cmp x y) (nat_cmp p q) _ _ o step e tells),
+      rw (begins.is, starts.is) (entry_begun m n (x ∷ begins.more) (y ∷ starts.more) begins.others starts.others ∙ chain_decides (int_cmp m n) (nat_cmp x y) (nat_cmp p q) _ _ o step e tells),
+      rw (begins.is, starts.is) (prefix_begun m n (x ∷ begins.more) (y ∷ starts.more) begins.others starts.others ∙ chain_decides (int_cmp m n) (nat_cmp x y) (nat_cmp p q) _ _ o step e tells),
     )
 
--- where the abbreviated keys decide, the rows are ordered so
-pub heads_tell : (h k : AbbreviatedKey) (a b : Row) → IsAbbreviationOf h a → IsAbbreviationOf k b → (o : Ordering) → abbreviated_cmp h k ≡ o → (o ≡ Equal → ⊥) → Told o a b
-heads_tell Other k a b of_a of_b o e tells = absurd (tells (sym e))
-heads_tell (Integer m) k a b of_a of_b o e tells = absurd (tells (sym e))
-heads_tell (IntegerAndBlob x m p) Other a b of_a of_b o e tells = absurd (tells (sym e))
-heads_tell (IntegerAndBlob x m p) (Integer n) a b of_a of_b o e tells = absurd (tells (sym e))
-heads_tell (IntegerAndBlob x m p) (IntegerAndBlob y n q) a b of_a of_b o e tells =
+-- if the abbreviated keys decide, the rows are ordered so
+pub heads_decide : (h k : AbbreviatedKey) (a b : Row) → IsAbbreviationOf h a → IsAbbreviationOf k b → (o : Ordering) → abbreviated_cmp h k ≡ o → (o ≡ Equal → ⊥) → DecidedBy o a b
+heads_decide Other k a b of_a of_b o e tells = absurd (tells (sym e))
+heads_decide (Integer m) k a b of_a of_b o e tells = absurd (tells (sym e))
+heads_decide (IntegerAndBlob x m p) Other a b of_a of_b o e tells = absurd (tells (sym e))
+heads_decide (IntegerAndBlob x m p) (Integer n) a b of_a of_b o e tells = absurd (tells (sym e))
+heads_decide (IntegerAndBlob x m p) (IntegerAndBlob y n q) a b of_a of_b o e tells =
     both_begun a b o (begun a m x p (sym of_a.value) (of_a.bounded x m p refl)) (begun b n y q (sym of_b.value) (of_b.bounded y n q refl)) e tells
 
 pub is_plain : (o : Order) → o.digits ≡ 0 → o ≡ plain

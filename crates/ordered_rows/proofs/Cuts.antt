@@ -8,7 +8,7 @@ use Rattle.sqlite_trees.specs.Tree.{IsAscending}
 use Rattle.sqlite_trees.proofs.ListLemmas.{all_weaker, filter_all, filter_none}
 use Rattle.ordered_rows.specs.Edits.{IsAt, IsCut, without}
 
--- what ascends, seen from one of its elements
+-- an ascending list, seen from one of its elements
 pub record IsAround {A : Type 0} (R : A → A → Type 0) (xs : List A) (x : A) (ys : List A) : Type 0 where
   pub before : AllByRecursion (λ y. R y x) xs
   pub after : AllByRecursion (R x) ys
@@ -53,7 +53,7 @@ module _ (side : Row → Ordering) where
   others : (zs : List Row) → AllByRecursion (λ x. is_eq (side x) ≡ false) zs → without side zs ≡ zs
   others zs h = filter_all _ zs (all_weaker _ (λ x. not (is_eq (side x)) ≡ true) (λ x e. ap not e) zs h)
 
-  -- what rows in order give at one of them
+  -- the rows in order, seen from one of them
   module _ (rows xs : List Row) (r : Row) (ys : List Row) (is : rows ≡ xs ++ r ∷ ys) (cut : IsCut side rows) where
     up : IsCut side (xs ++ r ∷ ys)
     up = subst (IsCut side) is cut

@@ -1,4 +1,4 @@
--- What a cursor gives, and what is left then.
+-- The rows that a cursor gives, and those that are left then.
 use Rattle.std.proofs.Common.{◌≡◌, ◌≢◌, ◌⊎◌, ◌≤◌, ◌<◌, ◌+◌, ◌-◌, ◌∙◌, List, [], ◌∷◌, ◌++◌, ap, arith, drop, length, min, reverse, sym, take, ℕ, inl, inr}
 use Rattle.std.proofs.Math.Seq.{take-add}
 use Rattle.std.proofs.lemmas.Bool.{cases_lt}

@@ -57,7 +57,7 @@ module _ (rows xs : List Row) (r : Row) (ys : List Row) (is : rows ≡ xs ++ r �
 pub told : (at left k : ℕ) → at ≡ min (left + 1 + k) most → at < most → (at ≡ left + suc k) × (k < most)
 told at left k is low = (omega (arith, is, low), omega (arith, is, low))
 
--- the number of a left side, where it is not the greatest
+-- the number of a left side, if it is not the greatest
 pub counted : (count left : ℕ) → count ≡ min left most → count < most → left ≡ count
 counted count left is low = omega (arith, is, low)
 

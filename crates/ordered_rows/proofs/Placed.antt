@@ -1,4 +1,4 @@
--- Where a place is among rows in order.
+-- The place of a row among rows in order.
 use Rattle.std.proofs.Common.{◌≡◌, ◌+◌, ℕ, suc, Bool, true, false, not, List, [], ◌∷◌, ◌++◌, drop, take, set, length, refl, sym, ap, ◌∙◌, subst, arith, append_assoc, Ordering, Less, Equal, Greater, is_lt, is_gt, is_eq, true≢false}
 use Rattle.std.specs.List.{AllByRecursion}
 use Rattle.std.proofs.lemmas.List.{take_at, drop_at, set_at, length-append}
@@ -14,7 +14,7 @@ all_append P [] ys h k = k
 all_append P (x ∷ xs) ys h k = (h.0, all_append P xs ys h.1 k)
 
 module _ (side : Row → Ordering) where
-  -- what rows in order give at one of them
+  -- the rows in order, seen from one of them
   module _ (rows xs : List Row) (r : Row) (ys : List Row) (is : rows ≡ xs ++ r ∷ ys) (cut : IsCut side rows) where
     up : IsCut side (xs ++ r ∷ ys)
     up = subst (IsCut side) is cut

@@ -1,4 +1,4 @@
--- What undoing an edit gives.
+-- The tree after an edit is undone.
 use Rattle.std.proofs.Common.{◌≡◌, ◌≤◌, ◌<◌, ◌⊎◌, ◌+◌, ◌∙◌, [], ◌∷◌, ◌++◌, List, ap, arith, drop, inl, inr, length, refl, set, suc, sym, take, ℕ}
 use Rattle.std.proofs.lemmas.Bool.{cases_lt}
 use Rattle.std.proofs.Math.ListN.{drop_of_length-le}

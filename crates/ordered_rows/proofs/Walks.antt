@@ -1,4 +1,4 @@
--- What a seek finds on either side of a row.
+-- The row that a seek finds, on either side of a row.
 use Rattle.std.proofs.Common.{◌≡◌, ◌≤◌, ◌+◌, ℕ, suc, true, false, cond, List, [], ◌∷◌, ◌++◌, drop, take, length, refl, sym, ap, ◌∙◌, subst, true≢false, is_lt, is_gt}
 use Rattle.std.specs.List.{AllByRecursion}
 use Rattle.sqlite_value.specs.declared.keys.Order.{Order}

@@ -1,4 +1,4 @@
--- Abbreviated keys: the beginning of a row, which is kept beside it.
+-- Abbreviated keys: the beginning of a row, which is kept with it.
 use Rattle.std.specs.Prelude.{◌≡◌, ◌+◌, ◌*◌, ◌<◌, ℕ, ℤ, zero, suc, List, [], ◌∷◌}
 use Rattle.std.specs.Prelude.{Option, Some, None, slice_index_or}
 use Rattle.std.specs.declared.cmp.Ordering.{Ordering}
@@ -13,13 +13,13 @@ use Rattle.ordered_rows.specs.declared.abbreviated_key.AbbreviatedKey.TheVariant
 use Rattle.ordered_rows.specs.declared.abbreviated_key.AbbreviatedKey.TheVariants.{Other}
 
 -- the number whose digits to base 256 are those of `number` and then the first `left` bytes; a byte
--- that is not there is a zero
+-- that is missing is a zero
 abbrev pub spelled : ℕ → ℕ → List ℕ → ℕ
 spelled zero number more = number
 spelled (suc left) number [] = spelled left (number * 256) []
 spelled (suc left) number (byte ∷ more) = spelled left (number * 256 + byte) more
 
--- an integer, and the start of what comes next
+-- an integer, and the start of what follows
 abbrev pub abbreviated_after : ℤ → Value → AbbreviatedKey
 abbreviated_after n Null = Integer n
 abbreviated_after n (Int m) = Integer n
@@ -36,7 +36,7 @@ abbreviated_by (Real x) next = Other
 abbreviated_by (Text t) next = Other
 abbreviated_by (Blob b) next = Other
 
--- the abbreviated key is that of this row, whose blob is of bytes
+-- the abbreviated key is this row's, whose blob is of bytes
 pub record IsAbbreviationOf (key : AbbreviatedKey) (row : Row) : Type 0 where
   pub value : key ≡ abbreviated_by (column row 0) (column row 1)
   pub bounded : (byte : ℕ) (n : ℤ) (number : ℕ) → key ≡ IntegerAndBlob byte n number

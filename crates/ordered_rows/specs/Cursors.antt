@@ -1,4 +1,4 @@
--- What a cursor gives.
+-- The rows that a cursor gives.
 use Rattle.std.specs.Prelude.{◌≡◌, ℕ, Bool, true, false, List, [], ◌∷◌, drop, reverse, take}
 use Rattle.sqlite_value.specs.Order.{Row}
 use Rattle.sqlite_trees.specs.declared.store.Direction.{Direction}

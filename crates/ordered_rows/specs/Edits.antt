@@ -12,7 +12,7 @@ use Rattle.sqlite_trees.specs.Tree.{IsAscending}
 abbrev pub IsCut : (Row → Ordering) → List Row → Type 0
 IsCut side = IsAscending (λ a b. is_lt (side a) ≡ false → side b ≡ Greater)
 
--- the rows, with a new one at the place: it replaces the one that is there, or that one stays
+-- the rows, with a new one at the place: it replaces the one that exists, or that one stays
 abbrev pub with_new : (Row → Ordering) → Bool → Row → List Row → List Row
 with_new side replaces new [] = new ∷ []
 with_new side replaces new (r ∷ rs) =
@@ -23,7 +23,7 @@ with_new side replaces new (r ∷ rs) =
 abbrev pub without : (Row → Ordering) → List Row → List Row
 without side = filter (λ r. not (is_eq (side r)))
 
--- this row is at the place, or none is
+-- a row that is found at the place, or none
 abbrev pub IsAt : (Row → Ordering) → List Row → Row → Bool → Type 0
 IsAt side rows row found = filter (λ r. is_eq (side r)) rows ≡ (if found then row ∷ [] else [])
 
@@ -32,7 +32,7 @@ abbrev pub IsHere : (Row → Ordering) → List Row → Bool → Type 0
 IsHere side [] found = found ≡ false
 IsHere side (r ∷ rs) found = (found ≡ true) × (side r ≡ Equal) × (rs ≡ [])
 
--- `at` rows are below the place, then there is one at it or none, and the others are above it
+-- `at` rows are below the place, then there is one at it or none, and the rest are above it
 pub record IsPlaced (side : Row → Ordering) (rows : List Row) (at : ℕ) (found : Bool) : Type 0 where
   pub below : List Row
   pub here : List Row

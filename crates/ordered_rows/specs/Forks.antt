@@ -1,4 +1,4 @@
--- What a node of the tree is seen as.
+-- The model of a node of the tree.
 use Rattle.std.specs.Prelude.{◌≡◌, ◌+◌, ◌-◌, ◌^◌, ◌%◌, ◌++◌, ℕ, [], ◌∷◌, length, max, min, ⊤}
 use Rattle.ordered_rows.specs.declared.tree.Fork.{Fork as ForkOf}
 use Rattle.ordered_rows.specs.declared.tree.Link.{Link}
@@ -6,7 +6,7 @@ use Rattle.ordered_rows.specs.declared.tree.Link.TheVariants.{Leaf, Fork}
 use Rattle.ordered_rows.specs.Heights.{DifferByAtMost, IsLow}
 use Rattle.ordered_rows.specs.RowTrees.{RowTree}
 
--- a fork's row between those of its sides, and one more than the height of its higher side
+-- a fork's row between the rows of its sides, and one more than the height of its higher side
 abbrev pub fork_tree : ForkOf → RowTree
 fork_tree f = record {
   rows = f.left.rows ++ f.row ∷ f.right.rows;
@@ -29,7 +29,7 @@ pub record IsBalanced (height count : ℕ) (f : ForkOf) : Type 0 where
   pub balanced : DifferByAtMost 1 f.left.height f.right.height
   pub low : IsLow (fork_tree f).height (length (fork_tree f).rows)
 
--- what is kept beside a fork is right, and the fork is balanced
+-- the numbers beside a fork are right, and the fork is balanced
 abbrev pub IsSound : Link → Type 0
 IsSound Leaf = ⊤
 IsSound (Fork height count f) = IsBalanced height count f.value

@@ -6,7 +6,7 @@ use Rattle.sqlite_value.specs.Order.{Row}
 use Rattle.sqlite_value.specs.Keys.{prefix_cmp}
 use Rattle.sqlite_trees.specs.Tree.{IsAscending}
 
--- what is before a row below the key is below it too, and what is after one above it is above it
+-- a row before one below the key is below it too, and a row after one above it is above it
 abbrev pub IsSeekable : Order → Row → List Row → Type 0
 IsSeekable o key = IsAscending (λ a b.
     (IsTrue (is_lt (prefix_cmp o b key)) → IsTrue (is_lt (prefix_cmp o a key)))

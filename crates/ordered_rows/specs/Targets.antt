@@ -7,7 +7,7 @@ use Rattle.sqlite_trees.specs.Tree.{rowid}
 use Rattle.ordered_rows.specs.declared.target.Target.{Target}
 use Rattle.ordered_rows.specs.declared.target.Target.TheVariants.{Rowid, Entry}
 
--- how a row compares with the target
+-- the order of a row and the target
 abbrev pub side : Target → Row → Ordering
 side (Rowid id) r = value_cmp (rowid r) (Int id)
 side (Entry s) r = entry_cmp s.now.order r s.now.row.now

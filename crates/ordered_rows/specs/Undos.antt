@@ -1,4 +1,4 @@
--- What undoing gives.
+-- The tree that undoing gives.
 use Rattle.std.specs.Prelude.{◌≡◌, List, slice_set}
 use Rattle.sqlite_value.specs.Order.{Row}
 use Rattle.ordered_rows.specs.declared.undo.InverseEdit.{InverseEdit}

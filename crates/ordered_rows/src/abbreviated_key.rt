@@ -9,16 +9,16 @@ use sqlite_value::row::Row;
 use sqlite_value::value::ValueRef;
 use std::cmp::Ordering;
 
-/// The beginning of a row, which is kept beside it, so that most comparisons read no row. The key
+/// The beginning of a row, which is kept with it, so that most comparisons read no row. The key
 /// of a version begins with its table's number and then the bytes of its values: one byte is the
-/// kind of the first, and the eight after it are the value where it is an integer.
+/// kind of the first, and the eight after it are the value if it is an integer.
 #[derive(Clone, Copy)]
 pub(crate) enum AbbreviatedKey {
     /// The row begins with no integer.
     Other,
-    /// It begins with this one.
+    /// An integer is first.
     Integer(i64),
-    /// A blob comes next: its first byte, the integer, and the number that the eight bytes after it
+    /// A blob is next: its first byte, the integer, and the number that the eight bytes after it
     /// spell. (In this order they take the least room.)
     IntegerAndBlob(u8, i64, u64),
 }
@@ -37,7 +37,7 @@ impl AbbreviatedKey {
         AbbreviatedKey::after(first, blob)
     }
 
-    // That of a row that begins with this integer and this blob.
+    // The abbreviated key of a row that begins with this integer and this blob.
     fn after(first: i64, blob: &[u8]) -> AbbreviatedKey
         ensures value { result ≡ abbreviated_after first (Blob blob.now) }
         ensures bounded { (at : ℕ) → slice_index_or blob.now at 0 < 256 }
@@ -60,7 +60,7 @@ impl AbbreviatedKey {
         }
     }
 
-    /// How two rows compare by their abbreviated keys. Where this is `Equal`, nothing is known of
+    /// The order of two rows by their abbreviated keys. If this is `Equal`, nothing is known of
     /// the rows.
     #[inline(always)]
     pub(crate) fn cmp(self, other: AbbreviatedKey) -> Ordering
@@ -80,7 +80,7 @@ impl AbbreviatedKey {
     }
 }
 
-/// The number that the first eight bytes spell, the first the highest; those that are not there are
+/// The number that the first eight bytes spell, the first the highest; those that are missing are
 /// zeros.
 fn number(bytes: &[u8]) -> u64
     ensures { result ≡ spelled 8 0 bytes.now }

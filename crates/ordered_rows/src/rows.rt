@@ -94,7 +94,7 @@ impl OrderedRows {
         }
     }
 
-    /// Inserts the entry, unless an equal one is there.
+    /// Inserts the entry, unless an equal one exists.
     pub fn insert(&mut self, order: Order, entry: &Row) -> Result<Undo, AllocError>
         requires { IsIndex order self.old }
         ensures ok { IfOk result (Undoes self.old self.new (insert_entry order entry.now)) }
@@ -167,7 +167,7 @@ impl OrderedRows {
         Ok(RowCursor { direction, at })
     }
 
-    /// Writes the cursor's next row over `row` and moves past it, or answers false where none is
+    /// Writes the cursor's next row over `row` and moves past it, or answers false if none is
     /// left.
     pub fn next(&self, cursor: &mut RowCursor, row: &mut Row) -> Result<bool, AllocError>
         ensures ok { IfOk result
@@ -195,7 +195,7 @@ impl OrderedRows {
         Ok(true)
     }
 
-    // The rank of the target, and whether a row is there. It fails where the rank does not fit 32
+    // The rank of the target, and whether a row exists. It fails if the rank does not fit 32
     // bits.
     fn placed(&self, target: Target<'_>) -> Result<(u32, bool), AllocError>
         requires { IsCut (side target) self.now }

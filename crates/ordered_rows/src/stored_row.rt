@@ -15,7 +15,7 @@ use std::alloc::{AllocError, Global};
 use std::cmp::Ordering;
 use std::marker::Model;
 
-/// A row, and its abbreviated key beside it. Contracts see the row alone.
+/// A row with its abbreviated key. Contracts see the row alone.
 #[derive(Drop)]
 pub(crate) struct StoredRow {
     abbreviated: AbbreviatedKey,
@@ -74,7 +74,7 @@ impl StoredRow {
         }
     }
 
-    /// The same over the columns that a key has.
+    /// Compares two rows over the columns that a key has.
     #[inline(always)]
     pub(crate) fn cmp_prefix(&self, probe: &Probe<'_>) -> Ordering
         ensures { result ≡ prefix_cmp probe.now.order self.now probe.now.row.now }

@@ -1,4 +1,4 @@
-//! What the rows of a tree are compared with in an edit or a seek.
+//! The row or the key with which the rows of a tree are compared in an edit or a seek.
 
 ghost use Rattle.std.specs.Prelude.{◌≡◌};
 ghost use Rattle.ordered_rows.specs.AbbreviatedKeys.{IsAbbreviationOf};

@@ -1,4 +1,4 @@
-//! What takes an edit back.
+//! An undo, which takes an edit back.
 
 ghost use Rattle.std.specs.Prelude.{◌≡◌};
 ghost use Rattle.ordered_rows.specs.Countable.{IsCountable};

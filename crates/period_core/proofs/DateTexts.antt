@@ -62,7 +62,7 @@ taken (suc n) i t h =
 pub bytes_are : (n : ℕ) (t : List ℕ) → length t ≡ n → t ≡ bytes_from n 0 t
 bytes_are n t e = sym (take-length t) ∙ ap (λ (k : ℕ). take k t) e ∙ taken n 0 t (omega (arith, e))
 
--- what a list has at a place
+-- equal lists have equal elements at a place
 at_place : (s r : List ℕ) (k : ℕ) → s ≡ r → get_or s k 0 ≡ get_or r k 0
 at_place s r k e = ap (λ (z : List ℕ). get_or z k 0) e
 
@@ -184,7 +184,7 @@ time_found t h m s hh hm hs whole =
     )
     refl
 
--- ---- moments: a date, a space, a time of day and what is behind them
+-- ---- moments: a date, a space, a time of day and what is after them
 
 pub moment_bytes : (t : List ℕ) → 19 ≤ length t → t ≡ bytes_from 10 0 t ++ get_or t 10 0 ∷ bytes_from 8 11 t ++ drop 19 t
 moment_bytes t h = sym (take-append-drop 19 t) ∙ ap (λ (front : List ℕ). front ++ drop 19 t) (taken 19 0 t (omega (arith, h)))

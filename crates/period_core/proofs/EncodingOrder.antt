@@ -1,4 +1,4 @@
--- The bytes of values stand in the order of the values.
+-- The bytes of values are in the order of the values.
 use Rattle.std.proofs.Common.{◌≡◌, ◌∙◌, ℕ, zero, suc, ◌+◌, ◌*◌, ◌/◌, ◌%◌, ◌^◌, ◌<◌, ◌≤◌, List, [], ◌∷◌, ◌++◌, refl, sym, ap, ap₂, arith, append_assoc, ℤ, pos, negsuc, ◌+ℤ◌, ◌-ℤ◌, ◌≤ℤ◌, ◌<ℤ◌, unsigned_abs, inl, inr}
 use Rattle.std.proofs.Math.Nat.{add-mul, div-one, mod-eq_of_lt, mod-lt, mul-le-mul_right, one-le-pow, pow-succ'}
 use Rattle.std.proofs.lemmas.Bool.{cases_lt}
@@ -121,7 +121,7 @@ zero-first b = grind (arith, nat_tests)
 zero-last : (b : ℕ) → nat_cmp (suc b) 0 ≡ Greater
 zero-last b = grind (arith, nat_tests)
 
--- the bytes of texts stand as the texts do: what ends before a 00 comes before it
+-- the bytes of texts stand as the texts do: what ends before a 00 precedes it
 text-cmp : (s t x y : List ℕ) →
     slice_cmp nat_cmp (flat_map escaped_byte s ++ 0 ∷ 0 ∷ x) (flat_map escaped_byte t ++ 0 ∷ 0 ∷ y)
     ≡ ordering_then (slice_cmp nat_cmp s t) (slice_cmp nat_cmp x y)
@@ -137,7 +137,7 @@ text-cmp (suc a ∷ s) (suc b ∷ t) x y =
     ap (ordering_then (nat_cmp (suc a) (suc b))) (text-cmp s t x y)
     ∙ then_assoc (nat_cmp (suc a) (suc b)) (slice_cmp nat_cmp s t) (slice_cmp nat_cmp x y)
 
--- a value's bytes decide as the value does, and then what stands behind them
+-- a value's bytes decide as the value does, and then what is after them
 value-cmp : (v w : Value) (x y : List ℕ) → IsColumnValue v → IsColumnValue w →
     slice_cmp nat_cmp (encoded_value v ++ x) (encoded_value w ++ y)
     ≡ ordering_then (value_cmp v w) (slice_cmp nat_cmp x y)
@@ -164,6 +164,7 @@ nothing-behind (Int n) x = refl
 nothing-behind (Text t) x = refl
 nothing-behind (Date d) x = refl
 
+-- two lists of values compare as their bytes do
 pub keeps_order : EncodingKeepsOrder
 keeps_order [] [] h g = refl
 keeps_order [] (w ∷ b) h g = nothing-before w (encoded b)
@@ -172,6 +173,7 @@ keeps_order (v ∷ a) (w ∷ b) h g =
     value-cmp v w (encoded a) (encoded b) (All-head IsColumnValue v a h) (All-head IsColumnValue w b g)
     ∙ ap (ordering_then (value_cmp v w)) (keeps_order a b (All-tail IsColumnValue v a h) (All-tail IsColumnValue w b g))
 
+-- lists of column values with the same bytes are one list
 pub reads_back : EncodingReadsBack
 reads_back a b h g e =
     let tied : slice_cmp nat_cmp (encoded a) (encoded b) ≡ Equal = rw e (tied_itself nat_list_cmp_total (encoded b)) in

@@ -70,9 +70,9 @@ filled_is digits few =
     let at = λ (k : ℕ) (h : k < 6). filled_at digits n k (omega (arith, h)) in
     bytes_are 6 filled long ∙ rw (at 0 (lit< tt), at 1 (lit< tt), at 2 (lit< tt), at 3 (lit< tt), at 4 (lit< tt), at 5 (lit< tt)) refl
 
--- ---- what stands behind the seconds
+-- ---- the bytes after the seconds
 
--- the bytes behind a place, and the digit 0 behind the end
+-- the bytes after a place, and the digit 0 after the end
 place_is : (t : List ℕ) (k : ℕ) → get_or (drop 20 t) k 48 ≡ digit_at t (20 + k)
 place_is t k = get_or-drop 20 t k 48
 
@@ -84,7 +84,7 @@ point_first : (digits : List ℕ) → 0 < length digits → fraction_text digits
 point_first [] h = absurd (omega (arith, h))
 point_first (digit ∷ more) h = refl
 
--- what is read behind the seconds: the digits of the fraction
+-- the digits of a fraction, read after the seconds
 pub record Fraction (t : List ℕ) (us : ℕ) : Type 0 where
   pub digits : List ℕ
   pub shows : ShowsFraction digits us

@@ -97,7 +97,7 @@ written_show us false e = six_digits_show us
 pub written-show : (us : ℕ) → ShowsFraction (written_digits us) us
 written-show us = written_show us (us == 0) refl
 
--- the text with all six digits, cut behind the seconds where the fraction is zero, is the text that
+-- the text with all six digits, cut after the seconds if the fraction is zero, is the text that
 -- is written
 pub record Cut (n : ℤ) (len : ℕ) : Type 0 where
   pub long : len ≡ length (moment_text n)

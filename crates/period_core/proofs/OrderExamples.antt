@@ -17,7 +17,7 @@ integer-before-text = refl
 text-before-date : value_cmp (Text (codes "zz")) (Date (neg_ℤ (pos 719_162))) ≡ Less
 text-before-date = refl
 
--- as integers 9 comes before 10
+-- as integers 9 precedes 10
 texts-by-bytes : value_cmp (Text (codes "9")) (Text (codes "10")) ≡ Greater
 texts-by-bytes = refl
 
@@ -41,7 +41,7 @@ four_to_five = period_over (pos 4) (pos 5) refl
 period-its_order : (a b : Period) → (period_impl.ghosts).cmp a b ≡ period_cmp a b
 period-its_order a b = refl
 
--- where the starts are the same, the end decides
+-- of equal starts, the end decides
 earlier_end-second : (period_impl.ghosts).cmp three_to_five three_to_nine ≡ Less
 earlier_end-second = refl
 
@@ -62,7 +62,7 @@ version-start_second :
     (version_over (pos 7) four_to_five (pos 50) (pos 51)) ≡ Less
 version-start_second = refl
 
--- then the start of the system time: the version of the earlier one comes first, though its period
+-- then the start of the system time: the version of the earlier one is first, though its period
 -- ends later
 version-from_third :
     version_cmp (version_over (pos 7) three_to_nine (pos 50) (pos 60))

@@ -8,18 +8,22 @@ use Rattle.period_core.specs.declared.period.Period.{Period}
 pub days_from : (p : Period) (day : ℤ) → InPeriod p day → p.start ≤ℤ day
 days_from p day h = grind (arith, h)
 
+-- a day in a period is before its end
 pub days_to : (p : Period) (day : ℤ) → InPeriod p day → day <ℤ p.end
 days_to p day h = grind (arith, h)
 
+-- a day from the start on and before the end is in the period
 pub day_in : (p : Period) (day : ℤ) → p.start ≤ℤ day → day <ℤ p.end → InPeriod p day
 day_in p day h k = grind (arith, h, k)
 
 abbrev last : Period → ℤ
 last p = p.end -ℤ pos 1
 
+-- a period has its start in it
 pub first_in : (p : Period) → InPeriod p p.start
 first_in p = day_in p p.start (omega (arith, ints)) p.ordered
 
+-- a period has its last day in it
 pub last_in : (p : Period) → InPeriod p (last p)
 last_in p = let ordered : p.start <ℤ p.end = p.ordered in day_in p (last p) (omega (arith, ints)) (omega (arith, ints))
 
@@ -35,15 +39,19 @@ overlap_left x y (day, both) =
     let from : x.start ≤ℤ day = days_from x day both.0 in
     let to : day <ℤ y.end = days_to y day both.1 in omega (arith, ints)
 
+-- a day before all days of a period is before its start
 pub before_by : (y : Period) (day : ℤ) → IsBefore day y → day <ℤ y.start
 before_by y day h = h y.start (first_in y)
 
+-- a day before the start is before all days of the period
 pub before_to : (y : Period) (day : ℤ) → day <ℤ y.start → IsBefore day y
 before_to y day h other inside = let k : y.start ≤ℤ other = days_from y other inside in omega (arith, ints)
 
+-- a day after all days of a period is not before its end
 pub after_by : (y : Period) (day : ℤ) → IsAfter day y → y.end ≤ℤ day
 after_by y day h = let k : last y <ℤ day = h (last y) (last_in y) in omega (arith, ints)
 
+-- a day from the end on is after all days of the period
 pub after_to : (y : Period) (day : ℤ) → y.end ≤ℤ day → IsAfter day y
 after_to y day h other inside = let k : other <ℤ y.end = days_to y other inside in omega (arith, ints)
 

@@ -17,7 +17,7 @@ last_second-read = refl
 
 -- ---- fractions
 
--- they are filled on the right
+-- digits of a fraction are filled on the right
 half-read : moment_of_text (codes "1970-01-01 00:00:00.5") ≡ Some (pos 500_000)
 unfolding moment_of_text date_at time_at fraction_at date_parts_of time_parts_of six_of is_date is_time
 half-read = refl

@@ -1,4 +1,4 @@
--- The bytes of a value can be read in one way only, whatever stands behind them.
+-- The bytes of a value can be read in one way only, whatever is after them.
 use Rattle.std.proofs.Common.{◌≡◌, ◌∙◌, ℕ, zero, suc, ◌+◌, ◌<◌, ◌⊎◌, inl, inr, List, [], ◌∷◌, ◌++◌, length, get_or, take, drop, refl, sym, ap, ap₂, subst, arith, append_assoc, length-append, length-take, ℤ, pos, ◌+ℤ◌, ◌-ℤ◌, unsigned_abs, w32, w64}
 use Rattle.std.proofs.lemmas.List.{append-nil, take-append-drop}
 use Rattle.std.proofs.lemmas.List.Concat.{flat_map-append}
@@ -14,7 +14,7 @@ use Rattle.period_core.specs.Encoding.{IsColumnValue, IsEncoding, encoded, encod
 use Rattle.period_core.specs.declared.value.Value.{Value}
 use Rattle.period_core.specs.declared.value.Value.TheVariants.{Int, Text, Date}
 
--- a text that begins as other bytes do has them at its front, and the rest of it behind
+-- a text that begins as other bytes do has them at its front, and the rest of it after
 record SplitsAt (front text rest behind : List ℕ) : Type 0 where
   more : List ℕ
   text_is : text ≡ front ++ more
@@ -54,7 +54,7 @@ text-one_way s t x y e =
     let (none, same) = ended split.more x y split.rest_is in
     (sym (append-nil s) ∙ sym (split.text_is ∙ ap (λ (m : List ℕ). s ++ m) none), same)
 
--- what stands where the bytes of a text go on: a byte, an escaped 00, or the end
+-- the bytes of a text go on here: with a byte, an escaped 00, or the end
 pub record GoesOn (rest : List ℕ) : Type 0 where
   pub one : 0 < length rest
   pub two : get_or rest 0 0 ≡ 0 → 1 < length rest
@@ -69,7 +69,7 @@ goes_on (zero ∷ more) behind rest e =
 goes_on (suc b ∷ more) behind rest e =
     rw e record { one = omega arith; two = λ z. absurd (omega arith); which = λ z. absurd (omega arith) }
 
--- behind the front of a text it goes on
+-- after the front of a text it continues
 pub text-goes_on : (front text rest behind bytes : List ℕ) →
     flat_map escaped_byte front ++ rest ≡ bytes → escaped_text text ++ behind ≡ bytes → GoesOn rest
 text-goes_on front text rest behind bytes h e =
@@ -116,7 +116,7 @@ date-read places n first rest bytes small front behind long p e =
     ap (λ (k : ℕ). bytes_high_first 4 k ++ rest) (places-back first_day n places e)
     ∙ ap₂ (λ (a b : List ℕ). a ++ b) (same ∙ front) behind ∙ take-append-drop 4 bytes
 
--- whatever stands behind two values with the same bytes is the same
+-- whatever is after two values with the same bytes is the same
 pub rest-one_way : (v w : Value) (x y : List ℕ) →
     encoded_value v ++ x ≡ encoded_value w ++ y → x ≡ y
 rest-one_way (Int m) (Int n) x y e = cc
@@ -148,7 +148,7 @@ values-read values v after rest bytes h e =
     ∙ ap (λ (front : List ℕ). encoded values ++ (front ++ after)) (append-nil (encoded_value v))
     ∙ ap (λ (behind : List ℕ). encoded values ++ behind) e ∙ h
 
--- what stands behind the first value of values is the encoding of the others
+-- after the first value the encoding of the others follows
 pub rest-is_encoding : (v : Value) (rest bytes : List ℕ) →
     encoded_value v ++ rest ≡ bytes → IsEncoding bytes → IsEncoding rest
 rest-is_encoding v rest bytes e is = by is.0 is.1 is.2

@@ -1,4 +1,4 @@
--- What is read of a text is the one value whose text it is.
+-- A text is read as the one value whose text it is.
 use Rattle.std.proofs.Common.{◌≡◌, ℕ, zero, suc, ◌+◌, ◌-◌, ◌<◌, ◌≤◌, ℤ, Bool, true, false, cond, nat_lt, List, [], ◌∷◌, ◌++◌, length, take, drop, get_or, Option, Some, None, refl, sym, ap, ◌∙◌, ◌&&◌, ◌↔◌, inl, inr, arith, lit<, rules}
 use Rattle.std.specs.Prelude.{◌==◌, IsSome, IfSome, nat_le, slice_index}
 use Rattle.std.proofs.lemmas.Bool.{and_parts}
@@ -36,6 +36,7 @@ date_is y m d e =
       day = (nat_le_is 1 d t.0, nat_le_is d (month_length y m) t.1);
     }
 
+-- a date of the calendar passes the test of dates
 pub is_date_if : (y m d : ℕ) → IsDate y m d → is_date y m d ≡ true
 unfolding is_date
 is_date_if y m d h =
@@ -116,7 +117,7 @@ day_text_is_read t n h =
 moment_text_parts : (a b c e f g : List ℕ) (s : ℕ) → a ≡ b → s ≡ 32 → c ≡ e → f ≡ g → a ++ s ∷ c ++ f ≡ b ++ 32 ∷ e ++ g
 moment_text_parts a b c e f g s p q r w = rw (p, q, r, w) refl
 
--- the numbers of a date, of a time of day and of a fraction that are read, where they are a moment's
+-- the numbers of a date, of a time of day and of a fraction that are read, if they are a moment's
 moment_of_parts : (t : List ℕ) (n : ℤ) (date time : ℕ × ℕ × ℕ) (us : ℕ) → 18 < length t → get_or t 10 0 ≡ 32
     → date_at t ≡ Some date → time_at t ≡ Some time → fraction_at t ≡ Some us → number_of_moment date time us ≡ Some n → IsMomentText n t
 moment_of_parts t n date time us long space date_read time_read read e =
@@ -147,6 +148,7 @@ moment_of_parts t n date time us long space date_read time_read read e =
 nat_lt_is : (a b : ℕ) → nat_lt a b ≡ true → a < b
 nat_lt_is a b e = grind (arith, nat_tests, e)
 
+-- a text that is read as a moment is a text of that moment
 pub moment_read_is_text : (t : List ℕ) (n : ℤ) → moment_of_text t ≡ Some n → IsMomentText n t
 unfolding moment_of_text
 moment_read_is_text t n e =
@@ -163,6 +165,7 @@ moment_read_is_text t n e =
       ]
     ]
 
+-- a text of a moment is read as that moment
 pub moment_text_is_read : (t : List ℕ) (n : ℤ) → IsMomentText n t → moment_of_text t ≡ Some n
 unfolding moment_of_text
 moment_text_is_read t n is =
@@ -182,8 +185,9 @@ moment_text_is_read t n is =
     rw (enough, space, date, time, fraction, is_date_if y m d moment.date, is_time_if h mi s us hour minute second microsecond)
     (ap (λ (k : ℤ). Some k) number)
 
--- ---- which texts are those of days and moments
+-- ---- the texts of days and moments
 
+-- a value is read if and only if the text is one of some value
 pub there : (o : Option ℤ) (P : ℤ → Type 0) → ((n : ℤ) → o ≡ Some n → P n) → ((n : ℤ) → P n → o ≡ Some n) → IsSome o ↔ ((n : ℤ) × P n)
 there (Some n) P shown found = (λ s. (n, shown n refl), λ h. search rules)
 there None P shown found = (λ s. absurd cc, λ h. absurd (none_some h.0 (found h.0 h.1)))
@@ -218,7 +222,7 @@ nothing = None
 not_some : IsSome nothing → ⊥
 not_some s = cc
 
--- what is there exactly where a test holds, and is then this
+-- an option that exists exactly if a test holds, and then is this
 pub chosen : (r : Option ℤ) (b : Bool) (n : ℤ) (P : Type 0) → (b ≡ true → P) → (P → b ≡ true) → IsSome r ↔ P → IfSome r (λ x. x ≡ n) → r ≡ cond b (Some n) None
 chosen (Some x) b n P if_true if_P i e = rw (if_P (i.0 (search rules))) (ap (λ (z : ℤ). Some z) e)
 chosen None true n P if_true if_P i e = absurd (not_some (i.1 (if_true refl)))

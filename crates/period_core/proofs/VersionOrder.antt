@@ -11,7 +11,7 @@ use Rattle.period_core.specs.OrderLaws.{values_cmp-same, version_cmp_total}
 use Rattle.period_core.proofs.Periods.{period_same}
 use Rattle.period_core.specs.declared.version.VersionRow.{VersionRow}
 
--- two comparisons in turn tie where both do
+-- two comparisons in turn tie if both do
 then-Equal : (a b : Ordering) → ordering_then a b ≡ Equal → (a ≡ Equal) × (b ≡ Equal)
 then-Equal Less b e = cc
 then-Equal Equal b e = (refl, e)

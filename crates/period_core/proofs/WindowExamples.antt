@@ -11,6 +11,6 @@ from_to-its_end = refl
 between-its_end : window_sees (Between (pos 5) (pos 10)) (pos 10) forever ≡ true
 between-its_end = refl
 
--- it doesn't see a version that ends at a
+-- a version that ends at a is not seen
 between-ends_at_start : window_sees (Between (pos 20) (pos 30)) (pos 10) (pos 20) ≡ false
 between-ends_at_start = refl

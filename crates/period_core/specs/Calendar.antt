@@ -72,7 +72,7 @@ IsDayText n text =
     (y : ℕ) × (m : ℕ) × (d : ℕ) ×
     IsDate y m d × (day_number y m d ≡ n) × (text ≡ date_text y m d)
 
--- how many of the numbers below a bound pass the test
+-- the number of the numbers below a bound that pass the test
 unfoldable pub count_below : (ℕ → Bool) → ℕ → ℕ
 count_below test zero = 0
 count_below test (suc k) = count_below test k + (if test k then 1 else 0)
@@ -81,7 +81,7 @@ count_below test (suc k) = count_below test k + (if test k then 1 else 0)
 abbrev pub serial_of : ℤ → ℕ
 serial_of n = unsigned_abs (n +ℤ pos 719_163)
 
--- how many years have begun by the day with this serial number
+-- the number of years that have begun by the day with this serial number
 abbrev pub years_begun : ℕ → ℕ
 years_begun s = count_below (λ k. nat_lt (days_of_years k) s) 9999
 
@@ -89,11 +89,11 @@ years_begun s = count_below (λ k. nat_lt (days_of_years k) s) 9999
 abbrev pub year_of : ℤ → ℕ
 year_of n = years_begun (serial_of n)
 
--- how many days of its year have begun by the day with this number
+-- the number of days of its year that have begun by the day with this number
 abbrev pub day_in_year : ℤ → ℕ
 day_in_year n = serial_of n - days_of_years (year_of n - 1)
 
--- how many months of the year have begun by its r-th day
+-- the number of months of the year that have begun by its r-th day
 abbrev pub months_begun : ℕ → ℕ → ℕ
 months_begun y r = count_below (λ k. nat_lt (days_before y (k + 1)) r) 12
 
@@ -101,7 +101,7 @@ months_begun y r = count_below (λ k. nat_lt (days_before y (k + 1)) r) 12
 abbrev pub month_of : ℤ → ℕ
 month_of n = months_begun (year_of n) (day_in_year n)
 
--- its day in its month
+-- the day in its month
 abbrev pub day_of : ℤ → ℕ
 day_of n = day_in_year n - days_before (year_of n) (month_of n)
 

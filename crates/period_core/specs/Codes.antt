@@ -14,7 +14,7 @@ use Rattle.period_core.specs.declared.refusal.Refusal.TheVariants.{EmptyPeriod, 
 use Rattle.period_core.specs.declared.refusal.Refusal.TheVariants.{PeriodReference, BadStore}
 use Rattle.period_core.specs.declared.refusal.Refusal.TheVariants.{Memory, Store}
 
--- of several refusals, the one of the least number is answered
+-- the numbers of refusals: of several, the one with the least number is answered
 abbrev pub code_of : Refusal → ℕ
 code_of NotUtf8 = 1
 code_of ScriptTooLarge = 2

@@ -1,5 +1,5 @@
--- How two periods lie to each other, by their days: what each period predicate says, and what two
--- periods share. No definition reads a start or an end but `InPeriod`.
+-- Relations of two periods, by their days: the meaning of each period predicate, and the days that
+-- two periods share. No definition reads a start or an end but `InPeriod`.
 use Rattle.std.specs.Prelude.{◌↔◌, ◌<ℤ◌, ℤ, IsTrue, Option, Some, None}
 use Rattle.period_core.specs.PeriodPredicates.{covers_day}
 use Rattle.period_core.specs.declared.period.Period.{Period}
@@ -8,15 +8,16 @@ use Rattle.period_core.specs.declared.period.Period.{Period}
 abbrev pub InPeriod : Period → ℤ → Type 0
 InPeriod p day = IsTrue (covers_day p.start p.end day)
 
--- the same of a period that may be absent
+-- a day is in a period that may be absent
 abbrev pub InPart : Option Period → ℤ → Type 0
 InPart None day = ⊥
 InPart (Some p) day = InPeriod p day
 
--- the day is before each day of the period; after each
+-- the day is before each day of the period
 abbrev pub IsBefore : ℤ → Period → Type 0
 IsBefore day p = (other : ℤ) → InPeriod p other → day <ℤ other
 
+-- the day is after all days of the period
 abbrev pub IsAfter : ℤ → Period → Type 0
 IsAfter day p = (other : ℤ) → InPeriod p other → other <ℤ day
 

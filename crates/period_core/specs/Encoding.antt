@@ -1,4 +1,4 @@
--- Values as bytes, one after the other, so that the bytes stand in the order of the values.
+-- Values as bytes, one after the other, so that the bytes are in the order of the values.
 use Rattle.std.specs.Prelude.{◌≡◌, ◌++◌, [], ◌∷◌, zero, suc, ℕ, ℤ, pos, neg_ℤ, unsigned_abs, ◌-ℤ◌}
 use Rattle.std.specs.Prelude.{◌≤ℤ◌, List}
 use Rattle.std.specs.Int.{bytes_high_first}
@@ -8,8 +8,8 @@ use Rattle.period_core.specs.Calendar.{IsDayNumber, first_day}
 use Rattle.period_core.specs.declared.value.Value.{Value}
 use Rattle.period_core.specs.declared.value.Value.TheVariants.{Int, Text, Date}
 
--- how many whole numbers from the least on come before the number; of 64 bits signed this is
--- two's complement with the top bit flipped
+-- the number of whole numbers from the least on that come before the number; of 64 bits signed this
+-- is two's complement with the top bit flipped
 abbrev pub places_above : ℤ → ℤ → ℕ
 places_above least n = unsigned_abs (n -ℤ least)
 
@@ -21,7 +21,7 @@ least_integer = neg_ℤ (pos 9_223_372_036_854_775_808)
 abbrev pub greatest_number : ℕ
 greatest_number = 9_223_372_036_854_775_807
 
--- the same as an integer
+-- the greatest integer, as an integer without bound
 abbrev pub greatest_integer : ℤ
 greatest_integer = pos greatest_number
 

@@ -7,7 +7,7 @@ use Rattle.period_core.specs.Encoding.{IsColumnValue, encoded}
 use Rattle.period_core.specs.Order.{values_cmp}
 use Rattle.period_core.specs.declared.value.Value.{Value}
 
--- the bytes of two lists stand as the lists do
+-- the bytes of two lists compare as the lists do
 abbrev pub EncodingKeepsOrder : Type 0
 EncodingKeepsOrder =
     (a b : List Value) → All IsColumnValue a → All IsColumnValue b

@@ -1,4 +1,4 @@
--- Which of several refusals is answered: that of the least number whose condition holds.
+-- The refusal that is answered, of several: the one with the least number whose condition holds.
 use Rattle.std.specs.Prelude.{◌≡◌, ◌≤◌, ◌⊎◌}
 use Rattle.period_core.specs.Codes.{code_of}
 use Rattle.period_core.specs.declared.refusal.Refusal.{Refusal}
@@ -9,7 +9,7 @@ pub record IsLeast (Applies : Refusal → Type 0) (refusal : Refusal) : Type 0 w
   pub applies : Applies refusal
   pub least : (other : Refusal) → Applies other → code_of refusal ≤ code_of other
 
--- what a call may answer: the least, or out of memory in its place
+-- the answers that a call may give: the least, or out of memory in its place
 abbrev pub MayAnswer : (Refusal → Type 0) → Refusal → Type 0
 MayAnswer Applies refusal = IsLeast Applies refusal ⊎ (refusal ≡ Memory)
 

@@ -38,7 +38,7 @@ moments_per_hour = 60 * moments_per_minute
 abbrev pub moments_per_day : ℕ
 moments_per_day = 24 * moments_per_hour
 
--- how many moments of its day come before a time of day
+-- the number of moments of its day that come before a time of day
 abbrev pub time_number : ℕ → ℕ → ℕ → ℕ → ℕ
 time_number h mi s us =
     moments_per_hour * h + moments_per_minute * mi + moments_per_second * s + us
@@ -78,12 +78,12 @@ pub record ShowsFraction (digits : List ℕ) (us : ℕ) : Type 0 where
   pub few : length digits ≤ 6
   pub filled : digits ++ replicate (6 - length digits) 48 ≡ six_digits us
 
--- a point and the digits, where there are any
+-- a point and the digits, if there are any
 abbrev pub fraction_text : List ℕ → List ℕ
 fraction_text [] = []
 fraction_text (digit ∷ more) = codes "." ++ digit ∷ more
 
--- a text of the moment that has this number, as it is read: one without a fraction, where that is
+-- a text of the moment that has this number, as it is read: one without a fraction, if that is
 -- zero, or one with a point and one to six digits
 abbrev pub IsMomentText : ℤ → List ℕ → Type 0
 IsMomentText n text =
@@ -91,7 +91,7 @@ IsMomentText n text =
     IsMoment y m d h mi s us × (moment_number y m d h mi s us ≡ n) × ShowsFraction digits us ×
     (text ≡ date_time_text y m d h mi s ++ fraction_text digits)
 
--- how many moments come before the moment with this number
+-- the number of moments that come before the moment with this number
 abbrev pub moments_before : ℤ → ℕ
 moments_before n = unsigned_abs (n -ℤ first_moment)
 
@@ -99,11 +99,11 @@ moments_before n = unsigned_abs (n -ℤ first_moment)
 abbrev pub day_of_moment : ℤ → ℤ
 day_of_moment n = first_day +ℤ pos (moments_before n / moments_per_day)
 
--- how many moments of its day come before the moment with this number
+-- the number of moments of its day that come before the moment with this number
 abbrev pub moment_of_day : ℤ → ℕ
 moment_of_day n = moments_before n % moments_per_day
 
--- how many moments of its second come before the moment with this number
+-- the number of moments of its second that come before the moment with this number
 abbrev pub moment_of_second : ℤ → ℕ
 moment_of_second n = moments_before n % moments_per_second
 
@@ -117,7 +117,7 @@ time_of_day_text k =
 abbrev pub second_text : ℤ → List ℕ
 second_text n = day_text (day_of_moment n) ++ codes " " ++ time_of_day_text (moment_of_day n)
 
--- the digits that are written of a fraction of a second: none where it is zero, else all six
+-- the digits that are written of a fraction of a second: none if it is zero, else all six
 abbrev pub written_digits : ℕ → List ℕ
 written_digits us = if us == 0 then [] else six_digits us
 
@@ -125,6 +125,6 @@ written_digits us = if us == 0 then [] else six_digits us
 abbrev pub moment_text : ℤ → List ℕ
 moment_text n = second_text n ++ fraction_text (written_digits (moment_of_second n))
 
--- the same with all six digits, whatever the fraction
+-- the text of a moment with all six digits, whatever the fraction
 abbrev pub full_moment_text : ℤ → List ℕ
 full_moment_text n = second_text n ++ fraction_text (six_digits (moment_of_second n))

@@ -5,7 +5,7 @@ use Rattle.std.specs.Prelude.{option_and_then}
 use Rattle.period_core.specs.Calendar.{day_number, month_length}
 use Rattle.period_core.specs.Moments.{moment_number}
 
--- goes on with the value where there is one; `do` uses it
+-- continues with the value if there is one; `do` uses it
 infixl 10 ◌>>=◌
 abbrev pub ◌>>=◌ : {A B : Type 0} → Option A → (A → Option B) → Option B
 o >>= f = option_and_then f o

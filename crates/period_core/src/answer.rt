@@ -1,4 +1,4 @@
-//! What a sequenced query gives: the names of its columns, its rows, and a witness for each row.
+//! The answer to a sequenced query: the names of its columns, its rows, and a witness for each row.
 
 ghost use Rattle.std.specs.Prelude.{◌≡◌, IfOk};
 
@@ -15,7 +15,7 @@ use std::alloc::Global;
 pub struct Witness {
     /// The first day of the row.
     pub held: Day,
-    /// The day before it, where there is one.
+    /// The day before it, if there is one.
     pub absent: Option<Day>,
 }
 

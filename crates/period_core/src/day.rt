@@ -45,7 +45,7 @@ impl Day {
         Some(Day { number })
     }
 
-    /// The day with this date of the proleptic Gregorian calendar: `None` exactly where the years
+    /// The day with this date of the proleptic Gregorian calendar: `None` exactly if the years
     /// 1 to 9999 have no such date. Months and days count from 1.
     pub fn from_date(year: u16, month: u8, day: u8) -> Option<Day>
         ensures there { IsSome result ↔ IsDate year month day }
@@ -62,7 +62,7 @@ impl Day {
         }
     }
 
-    /// The day with this text, YYYY-MM-DD in ASCII as `write_text` writes it: `None` exactly where
+    /// The day with this text, YYYY-MM-DD in ASCII as `write_text` writes it: `None` exactly if
     /// it is no day's.
     #[tactic(auto, using(crate::proofs::TextReadings::day_readings))]
     pub fn from_text(text: &[u8]) -> Option<Day>

@@ -1,6 +1,6 @@
-//! Values as bytes, whose order is that of the values.
+//! Values as bytes, which compare as the values do.
 //!
-//! The values stand one after the other, each preceded by the tag of its kind:
+//! The values follow each other, each preceded by the tag of its kind:
 //!
 //! | Kind | Bytes |
 //! |---|---|
@@ -28,7 +28,7 @@ pub(crate) const TEXT: u8 = 2;
 /// The tag of a date.
 pub(crate) const DATE: u8 = 3;
 
-/// How many bytes an integer takes, with what stands before it.
+/// The bytes of an integer, with its tag.
 const INTEGER_BYTES: usize = 9;
 
 /// The bytes of the values, one after the other; no values have no bytes. An `Err` says that memory

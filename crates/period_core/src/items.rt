@@ -51,7 +51,7 @@ impl<T> Items<T> {
         self.items.as_slice()
     }
 
-    /// How many there are.
+    /// The number of items.
     pub fn len(&self) -> usize
         ensures { result ≡ length self.now }
     {

@@ -2,13 +2,14 @@
 //! refusals. What to touch in order to add
 //!
 //! - a refusal: `Refusal` in `refusal.rt`, its number and name there and in `specs/Codes`, the list
-//!   in `help.rt` of bitemporal_cli, the table in docs/PROFILE.md, and tools/explain;
+//!   in `help.rt` of command_line, the table in docs/PROFILE.md, and its cause and mend in
+//!   python/bitemporal_tools/explanation;
 //! - a period predicate: its call in `relations.rt`, its table in `specs/PeriodPredicates`, what it
 //!   says of the days in `specs/DaySets`, its word in sql_statements, and `relates` of
 //!   catalog_core;
 //! - a column type: `Value` in `value.rt`, its order in `specs/Order` and `specs/OrderLaws`, its
 //!   bytes in `specs/Encoding`, `specs/Decoding`, `encoding.rt` and `decoding.rt`, its text in
-//!   `specs/report/Report` of script_engine, and what `lib.rt` of catalog_core names.
+//!   `record.rt` and `specs/Report` of statement_reports, and what `lib.rt` of catalog_core names.
 #![tactic(auto)]
 
 pub mod answer;

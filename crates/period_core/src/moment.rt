@@ -38,16 +38,16 @@ const FIRST: i64 = -62_135_596_800_000_000;
 const FOREVER: i64 = 253_402_300_799_999_999;
 
 /// The moments of a second: the unit is a microsecond.
-const PER_SECOND: u64 = 1_000_000;
+const MICROSECONDS_PER_SECOND: u64 = 1_000_000;
 
 /// The moments of a minute.
-const PER_MINUTE: u64 = 60 * PER_SECOND;
+const MICROSECONDS_PER_MINUTE: u64 = 60 * MICROSECONDS_PER_SECOND;
 
 /// The moments of an hour.
-const PER_HOUR: u64 = 60 * PER_MINUTE;
+const MICROSECONDS_PER_HOUR: u64 = 60 * MICROSECONDS_PER_MINUTE;
 
 /// The moments of a day.
-const PER_DAY: u64 = 24 * PER_HOUR;
+const MICROSECONDS_PER_DAY: u64 = 24 * MICROSECONDS_PER_HOUR;
 
 impl Moment {
     /// The moment with this number: `None` below 0001-01-01 00:00:00 and above 9999-12-31
@@ -62,7 +62,7 @@ impl Moment {
         Some(Moment { number })
     }
 
-    /// The moment of this date and time of day: `None` exactly where the years 1 to 9999 have no
+    /// The moment of this date and time of day: `None` exactly if the years 1 to 9999 have no
     /// such date, or a day no such time. Months and days count from 1, hours, minutes, seconds and
     /// microseconds from 0; no minute has a leap second.
     pub fn from_parts(
@@ -82,17 +82,17 @@ impl Moment {
             return None;
         }
         let date = Day::from_date(year, month, day)?;
-        let time = PER_HOUR * u64::from(hour)
-            + PER_MINUTE * u64::from(minute)
-            + PER_SECOND * u64::from(second)
+        let time = MICROSECONDS_PER_HOUR * u64::from(hour)
+            + MICROSECONDS_PER_MINUTE * u64::from(minute)
+            + MICROSECONDS_PER_SECOND * u64::from(second)
             + u64::from(microsecond);
         Some(Moment {
-            number: PER_DAY as i64 * i64::from(date.number()) + time as i64,
+            number: MICROSECONDS_PER_DAY as i64 * i64::from(date.number()) + time as i64,
         })
     }
 
     /// The moment with this text in ASCII, YYYY-MM-DD HH:MM:SS, or this with a point and one to six
-    /// digits of the second's fraction: `None` exactly where it is no moment's.
+    /// digits of the second's fraction: `None` exactly if it is no moment's.
     #[tactic(auto, using(crate::proofs::TextReadings::moment_readings))]
     pub fn from_text(text: &[u8]) -> Option<Moment>
         ensures there { IsSome result ↔ ((n : ℤ) × IsMomentText n text.now) }
@@ -151,7 +151,7 @@ impl Moment {
         }
     }
 
-    // How many moments come before it.
+    // The number of moments before this one.
     fn count_before(self) -> u64
         ensures value { result ≡ moments_before self }
         ensures few { result < 315_537_897_600_000_000 }
@@ -166,14 +166,14 @@ impl Moment {
         ensures day { IsDayText (day_of_moment self) (day_text (day_of_moment self)) }
     {
         let before = self.count_before();
-        let day = Day::new((before / PER_DAY) as i32 + FIRST_DAY).unwrap();
+        let day = Day::new((before / MICROSECONDS_PER_DAY) as i32 + FIRST_DAY).unwrap();
         let mut date = [0; 10];
         day.write_text(&mut date);
-        let time = before % PER_DAY;
-        let hour = (time / PER_HOUR) as u8;
-        let minute = (time % PER_HOUR / PER_MINUTE) as u8;
-        let second = (time % PER_MINUTE / PER_SECOND) as u8;
-        let fraction = before % PER_SECOND;
+        let time = before % MICROSECONDS_PER_DAY;
+        let hour = (time / MICROSECONDS_PER_HOUR) as u8;
+        let minute = (time % MICROSECONDS_PER_HOUR / MICROSECONDS_PER_MINUTE) as u8;
+        let second = (time % MICROSECONDS_PER_MINUTE / MICROSECONDS_PER_SECOND) as u8;
+        let fraction = before % MICROSECONDS_PER_SECOND;
         let high = (fraction / 10_000) as u8;
         let middle = (fraction / 100 % 100) as u8;
         let low = (fraction % 100) as u8;
@@ -208,8 +208,8 @@ impl Moment {
     }
 
     /// Writes the date and the time of day in ASCII, and says how many bytes that took: 19 as
-    /// YYYY-MM-DD HH:MM:SS where the fraction of the second is zero, else 26, where a point and all
-    /// six digits follow. The remaining bytes stay as they are.
+    /// YYYY-MM-DD HH:MM:SS if the fraction of the second is zero, else 26, with a point and all
+    /// six digits. The remaining bytes stay as they are.
     pub fn write_text(self, text: &mut [u8; 26]) -> usize
         ensures length { result ≡ length (moment_text self) }
         ensures text { take result text.new ≡ moment_text self }
@@ -217,7 +217,7 @@ impl Moment {
         ensures moment { IsMomentText self (take result text.new) }
     {
         let full = self.full_text();
-        let length = if self.count_before() % PER_SECOND == 0 {
+        let length = if self.count_before() % MICROSECONDS_PER_SECOND == 0 {
             19
         } else {
             26

@@ -19,7 +19,7 @@ pub struct Period {
 }
 
 impl Period {
-    /// The period from `start` on and before `end`: `None` exactly where it would have no day.
+    /// The period from `start` on and before `end`: `None` exactly if it would have no day.
     pub fn new(start: Day, end: Day) -> Option<Period>
         ensures there { IsSome result ↔ (start <ℤ end) }
         ensures start { IfSome result (λ p. p.start ≡ start) }

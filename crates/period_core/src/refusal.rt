@@ -23,15 +23,15 @@ pub enum Refusal {
     TooDeep,
     /// A DATE literal that is not a date from 0001-01-01 to 9999-12-31, written `YYYY-MM-DD`.
     BadDate,
-    /// A TIMESTAMP literal that is no moment, or the open end where none may stand.
+    /// A TIMESTAMP literal that is no moment, or the open end where none may be.
     BadMoment,
     /// A number, with its sign, outside 64 bits signed.
     NumberRange,
     /// A limit on tables, columns, references, select items, operators or tokens.
     LimitReached,
-    /// CREATE of a name that is there.
+    /// CREATE of a name that exists.
     TableExists,
-    /// A table's name that is not there.
+    /// A table's name that is missing.
     UnknownTable,
     /// A column, period or qualifier that the tables in scope lack.
     UnknownColumn,
@@ -39,7 +39,7 @@ pub enum Refusal {
     AmbiguousColumn,
     /// One name for two things, or a column repeated in a list.
     DuplicateName,
-    /// A period or system column where a value column has to stand.
+    /// A period or system column where a value column has to be.
     PeriodColumn,
     /// A CREATE whose periods, key, types or references are not those that a table has to have.
     BadDefinition,

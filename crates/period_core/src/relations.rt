@@ -1,4 +1,4 @@
-//! How two periods lie to each other: the period predicates of ISO/IEC 9075-2:2011, what two
+//! Relations of two periods: the period predicates of ISO/IEC 9075-2:2011, the days that two
 //! periods share, and what is left of one without the other.
 
 ghost use Rattle.std.specs.Prelude.{◌≡◌, ◌↔◌, ◌≤ℤ◌, ◌<ℤ◌, ℤ, IsTrue};
@@ -23,7 +23,7 @@ fn earlier(day: Day, other: Day) -> Day
     if other < day { other } else { day }
 }
 
-/// The period from one day on and before another: `None` where there is no such day.
+/// The period from one day on and before another: `None` if there is no such day.
 fn from_to(start: Day, end: Day) -> Option<Period>
     ensures { (day : ℤ) → (InPart result day ↔ ((start ≤ℤ day) × (day <ℤ end))) }
 {
@@ -95,14 +95,14 @@ impl Period {
         self.start == other.end
     }
 
-    /// The period of the days that both have: `None` where they share none.
+    /// The period of the days that both have: `None` if they share none.
     pub fn intersect(self, other: Period) -> Option<Period>
         ensures { (day : ℤ) → (InPart result day ↔ (InPeriod self day × InPeriod other day)) }
     {
         from_to(later(self.start, other.start), earlier(self.end, other.end))
     }
 
-    /// What this period has before each day of the other, and what it has after each.
+    /// The part of this period before each day of the other, and the part after each.
     pub fn minus(self, other: Period) -> (Option<Period>, Option<Period>)
         ensures before { (day : ℤ) →
             (InPart result.0 day ↔ (InPeriod self day × IsBefore day other)) }

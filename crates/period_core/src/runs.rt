@@ -5,7 +5,7 @@ ghost use Rattle.period_core.specs.Runs.{IsRunEnd};
 
 use crate::row::PeriodRow;
 
-/// Where the run of the row at this index ends: the first index after it whose values differ, or
+/// The end of the run of the row at this index: the first index after it whose values differ, or
 /// the number of rows.
 pub fn run_end(rows: &[PeriodRow], at: usize) -> usize
     requires { at < length rows.now }

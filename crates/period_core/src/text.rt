@@ -12,7 +12,7 @@ use std::alloc::Global;
 use std::cmp::Ordering;
 use std::marker::Model;
 
-/// A text, which contracts see as its UTF-8 bytes. Texts stand in the order of these bytes.
+/// A text, which contracts see as its UTF-8 bytes. Texts compare as their bytes do.
 #[derive(Drop, Debug)]
 pub struct Text {
     string: String,
@@ -50,7 +50,7 @@ impl Text {
         Ok(Text { string })
     }
 
-    /// How many code points it has, whatever they look like together.
+    /// The number of code points, whatever they look like together.
     #[tactic(auto, using(std::proofs::lemmas::Str::chars_from_encodes))]
     pub fn char_count(&self) -> usize
         ensures { result ≡ length (chars self.now) }

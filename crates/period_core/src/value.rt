@@ -36,7 +36,7 @@ impl Value {
     }
 }
 
-/// The values of a row, column by column, which contracts see as their list. Lists stand in the
+/// The values of a row, column by column, which contracts see as their list. Lists are in the
 /// order of their first values that differ, and a list before those that it begins.
 #[derive(Drop, Debug)]
 pub struct Values {

@@ -11,7 +11,7 @@ use std::cmp::Ordering;
 
 /// Values that hold on each day of a period, as recorded from one moment on and before another.
 /// Versions are in the order of their values, then of the starts of their periods, then of the
-/// starts of their system times. Where these are the same, the ends of the periods decide, and
+/// starts of their system times. If these are the same, the ends of the periods decide, and
 /// then the ends of the system times.
 #[derive(Drop, Debug)]
 pub struct VersionRow {
@@ -21,7 +21,7 @@ pub struct VersionRow {
     pub period: Period,
     /// The first moment of the version's system time.
     pub from: Moment,
-    /// The moment at which its system time ends: FOREVER where the version is current.
+    /// The moment at which its system time ends: FOREVER if the version is current.
     pub to: Moment,
 }
 

@@ -5,7 +5,7 @@ ghost use Rattle.std.specs.Prelude.{◌≡◌};
 use crate::moment::Moment;
 
 /// The versions that a table reference sees, by their system time. A FROM .. TO sees none unless
-/// its first moment is before its second, and a BETWEEN .. AND none where its first is after its
+/// its first moment is before its second, and a BETWEEN .. AND none if its first is after its
 /// second.
 #[derive(Clone, Copy, PartialEq, Eq, Debug)]
 pub enum Window {

@@ -1,4 +1,4 @@
--- What a call says where it gives a value, or an error, says more.
+-- A call that gives a value, or an error: the clauses of either case.
 use Rattle.std.specs.Prelude.{Result, Ok, Err, OnErr, OnOk}
 
 pub on_ok : {X E : Type 0} (r : Result X E) {P Q : Type 0} → (P → Q) → OnOk r P → OnOk r Q

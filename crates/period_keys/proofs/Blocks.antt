@@ -39,7 +39,7 @@ changed_block blocks i old new Gone inside is kept x (k, b, below, at, there) =
       ]
     ]
 
--- what a block has that was put in place of another
+-- an item of a block that was put in place of another is one of the blocks'
 pub in_changed : (blocks : List Block) (i : ℕ) (new : Block) (x : PlacedPeriod) → i < length blocks → Contains new.items.items x → Has x (set blocks i new)
 in_changed blocks i new x inside there = let size : length (set blocks i new) ≡ length blocks = length-set blocks i new in (i, new, omega arith, get_or-set_same blocks i new new inside, there)
 
@@ -54,7 +54,7 @@ in_new_block blocks at block x there =
     some_member (λ (b : Block). Contains b.items.items x) (insert blocks at block) block
     (Contains-permutation (block ∷ blocks) (insert blocks at block) block (IsPermutation-insert blocks at block) (Contains-here block blocks)) there
 
--- what lies between two days lies between days around them
+-- items that lie between two days lie between days around them
 pub wider : (start end low high : ℤ) (items : List PlacedPeriod) → low ≤ℤ start → end ≤ℤ high → All (LiesBetween start end) items → All (LiesBetween low high) items
 wider start end low high items before after within =
     All-weaker (LiesBetween start end) (LiesBetween low high) (λ item (from, to). (omega (arith, ints), omega (arith, ints))) items within
@@ -66,7 +66,7 @@ pub wider_with :
 wider_with start end low high items all item before after lies within is =
     subst (All (LiesBetween low high)) (sym is) (All-append (LiesBetween low high) items (item ∷ []) (wider start end low high items before after within) (All-cons (LiesBetween low high) item [] lies (λ k d below. absurd (omega arith))))
 
--- of the elements of a list with one gone, the others are there
+-- of the elements of a list with one gone, the others exist
 pub others_left : {X : Type 0} (xs left : List X) (gone x : X) → IsPermutation xs (gone ∷ left) → Contains xs x → (x ≡ gone) ⊎ Contains left x
 others_left xs left gone x moved there = elim (Contains-cons_cases gone left x (Contains-permutation xs (gone ∷ left) x moved there)) [ inl same ↦ inl (sym same) | inr rest ↦ inr rest ]
 
@@ -92,11 +92,11 @@ others_kept xs i new old x inside is (k, below, at) =
       ]
     ]
 
--- what was found at a place
+-- an item that was found at a place
 pub is_there : {X : Type 0} (xs ys : List X) (i : ℕ) (here x : X) → xs ≡ ys → i < length xs → get_or xs i here ≡ x → (i < length ys) × (get_or ys i x ≡ x)
 is_there {X} xs ys i here x same below is = subst (λ (zs : List X). (i < length zs) × (get_or zs i x ≡ x)) same (below, get_or_default xs i x here below ∙ is)
 
--- those in one of two parts of a list in another order
+-- an element of a list is in one of two parts of the list in another order
 pub in_parts : {X : Type 0} (xs sorted : List X) (n : ℕ) (x : X) → IsPermutation xs sorted → Contains xs x → Contains (drop n sorted) x ⊎ Contains (take n sorted) x
 in_parts {X} xs sorted n x moved there =
     elim (Contains-append_cases (take n sorted) (drop n sorted) x (subst (λ (ys : List X). Contains ys x) (sym (take-append-drop n sorted)) (Contains-permutation xs sorted x moved there))) [ inl first ↦ inr first | inr second ↦ inl second ]
@@ -137,7 +137,7 @@ pub on_true : (b : Bool) {P Q : Type 0} → (P → Q) → OnTrue b P → OnTrue 
 on_true true f p = f p
 on_true false f p = tt
 
--- what may go in one step and in the next
+-- a case that may go in one step and in the next
 pub still : {P Q R : Type 0} → P ⊎ Q → (Q → P ⊎ R) → P ⊎ R
 still (inl gone) next = inl gone
 still (inr has) next = next has

@@ -58,6 +58,7 @@ within_covers row day h = grind (arith, h)
 covers_within : (row : PeriodRow) (day : ℤ) → covers_day row.period.start row.period.end day ≡ true → IsWithin row.period day
 covers_within row day h = grind (arith, h)
 
+-- a key clash on a day is a pair of that day's rows with one key
 pub clashes_of_days : (positions : List ℕ) (rows : List PeriodRow) (day : ℤ) → (IsKeyClash positions rows day ↔ ShareKey positions (values_on rows day))
 clashes_of_days positions rows day =
     let test : PeriodRow → Bool = λ (row : PeriodRow). covers_day row.period.start row.period.end day in

@@ -19,7 +19,7 @@ use Rattle.period_keys.proofs.Members.{some_member, member_of, Any-append, Any-o
 use Rattle.period_keys.proofs.Locality.{in_key, from_key, index_has, period_of}
 use Rattle.temporal_model.proofs.Members.{Contains-nil}
 
--- a child of the key holds on the day, and no period that is there of it does
+-- a child of the key holds on the day, and no period that exists of it does
 abbrev pub LosesParent : (List Value → List Period) → KeyedPeriods → List Value → ℤ → Type 0
 LosesParent there children key day = Any (λ child. IsGap (there key) child day) (periods_at children key)
 
@@ -39,7 +39,7 @@ parent_is_held own child keys above index day is =
           (parent, there, sym same, subst (λ q. IsWithin q day) (sym period_is) within),
     )
 
--- the children that are there after a change of children lack a parent where an added one does
+-- the children that exist after a change of children lack a parent if an added one does
 pub uncovered_after :
     (own : List ℕ) (keys : List ℕ) (above before ended stay added : List PeriodRow) (parents : KeyedPeriods)
     → IsIndexOf keys above parents → IsEachCovered own before keys above → IsPermutation before (ended ++ stay)

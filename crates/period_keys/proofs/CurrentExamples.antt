@@ -1,4 +1,4 @@
--- Worked rows of tables in memory: workers refer to departments by the second of their values. Where the departments go, a worker is left without a parent.
+-- Worked rows of tables in memory: workers refer to departments by the second of their values. If the departments go, a worker is left without a parent.
 use Rattle.std.proofs.Common.{◌==◌, ◌∷◌, [], cond, pos, None, List, refl}
 use Rattle.std.specs.Prelude.{codes}
 use Rattle.period_core.specs.declared.value.Value.TheVariants.{Int}

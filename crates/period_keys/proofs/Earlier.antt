@@ -38,6 +38,7 @@ counted tables name number is = by_place (position (λ (t : TableDef). bytes_eq 
 parent_number : (tables : List TableDef) (name : Name) (number : Option ℕ) (declared parts : Numbers) → declared ≡ parts → declared.0 ≡ number_of tables name → parts.0 ≡ number → number_of tables name ≡ number
 parent_number tables name number declared parts same first second = sym first ∙ ap (λ (n : Numbers). n.0) same ∙ second
 
+-- the parent of a lawful definition's reference is a table before it
 pub earlier_parent : (tables : List TableDef) (d : TableDef) (r : Reference) → IsLawful tables d → Contains d.references r → r.parent ≤ length tables
 unfolding declared_reference
 earlier_parent tables d r (c, none, defines) there =
@@ -45,7 +46,7 @@ earlier_parent tables d r (c, none, defines) there =
     let (x, in_c, is) = from_map (declared_reference tables c) c.references (reference_parts r) (subst (λ (list : List Numbers). Contains list (reference_parts r)) (sym defines.references) parts) in
     counted tables x.parent r.parent (parent_number tables x.parent (Some r.parent) (declared_reference tables c x) (reference_parts r) is refl refl)
 
--- where each definition is one that CREATE gives over those before it, each reference is to an earlier table
+-- if each definition is one that CREATE gives over those before it, each reference is to an earlier table
 pub refer_to_earlier : (catalog : List TableDef) → ((place : ℕ) (d : TableDef) → slice_get catalog place ≡ Some d → IsLawful (take place catalog) d) → ReferToEarlier catalog
 refer_to_earlier catalog each number child reference parent refers = by_number number refers.is_child refers.is_reference
   where

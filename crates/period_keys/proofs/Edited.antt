@@ -1,4 +1,4 @@
--- Periods in order, with one less.
+-- Periods in order stay so when one is removed.
 use Rattle.std.proofs.Common.{◌≡◌, ◌≤ℤ◌, ◌<ℤ◌, ◌<◌, ◌+◌, ℕ, ℤ, true, List, length, sym, subst, inl, inr, arith}
 use Rattle.std.specs.List.{remove}
 use Rattle.std.specs.Cmp.{int_ranks}
@@ -28,7 +28,7 @@ remove_in_order xs i inside order = λ j k d lt below.
     both : (a b c e : Period) → a ≡ c → b ≡ e → Fits c e → Fits a b
     both a b c e p q h = subst (λ z. Fits z b) (sym p) (subst (Fits c) (sym q) h)
 
--- what a test of two days says
+-- a test of two days, as their order
 pub earlier_day : (x y : ℤ) → true ≡ is_lt (int_cmp x y) → x <ℤ y
 earlier_day x y passes = by_order (int_cmp x y) passes (int_ranks x y)
   where

@@ -25,7 +25,7 @@ pub record Enters (m : Groups) (key : List Value) (w : KeyRows) (es : Entries) :
   pub was_ordered : IsOrdered values_cmp m
   pub entries : es ≡ insert_entry values_cmp m.entries key w
 
--- ---- a key that is there
+-- ---- a key that exists
 
 found_none : (es : Entries) (k : List Value) (v : KeyRows) → lookup (is_at (values_cmp k)) es ≡ Some v → lookup (is_at (values_cmp k)) es ≡ None → ⊥
 found_none es k v found none = (let e : Some v ≡ None = sym found ∙ none in cc)
@@ -65,7 +65,7 @@ inserted_empty (e ∷ es) k w none empty = by_order (λ h. inserted_empty es k w
 
 -- ---- either
 
--- the key is there, with this group, or it is new, and what is written was an empty group
+-- the key exists, with this group, or it is new, and what is written was an empty group
 Was : Groups → List Value → KeyRows → Type 0
 Was m key v = (Some v ≡ get values_cmp m key) ⊎ ((get values_cmp m key ≡ None) × (rows_in v ≡ []))
 

@@ -33,7 +33,7 @@ test_equates condition c left right is equal at_left at_right row met =
     (subst (λ (l : Comparand). compared Equal (side_value l row) (side_value c.right row) ≡ true) at_left
     (subst (λ o. compared o (side_value c.left row) (side_value c.right row) ≡ true) equal holds)))
 
--- what one of the conditions says of two places holds in each row that meets it
+-- two places that one of the conditions equates are equal in each row that meets it
 says_same : (condition : code.Tree CompareValues) (place other : ℕ) → SaysEqual condition place other → (row : List Value) → meets condition row ≡ true → slice_get row other ≡ slice_get row place
 says_same condition place other says row met =
     elim says.3 [
@@ -41,7 +41,7 @@ says_same condition place other says row met =
       | inr sides ↦ test_equates condition says.0 other place says.1 says.2 sides.1 sides.0 row met
     ]
 
--- what the conditions say of them holds in each row that meets all
+-- two places that the conditions equate are equal in each row that meets all
 pub said_same : (conditions : List (code.Tree CompareValues)) (place other : ℕ) → AreSaidEqual conditions place other → (row : List Value) → meets_all conditions row ≡ true → slice_get row other ≡ slice_get row place
 said_same conditions place other AreSaidEqual.itself row met = refl
 said_same conditions place other (AreSaidEqual.further {known = known} before says) row met =
@@ -109,7 +109,7 @@ and_false : (b : Bool) → (b && false) ≡ false
 and_false true = refl
 and_false false = refl
 
--- a condition that says it of a place that is there and one that is not
+-- a condition that says it of a place that exists and one that is not
 sides_lack : (places : List ℕ) (condition : code.Tree CompareValues) (known other : ℕ) → SaysEqual condition known other → (Contains places other → ⊥) → sides_of places condition ≡ false
 sides_lack places condition known other says absent =
     let lacks : has_side places (Position other) ≡ false = false_from_ne_true (has_side places (Position other)) (λ has. absent (side_to_there places other has)) in
@@ -171,7 +171,7 @@ added_none conditions known places = record {
   few = λ there few. few;
 }
 
--- what holds of the earlier conditions and of this one
+-- places found by the earlier conditions and by this one
 found_next : (conditions : List (code.Tree CompareValues)) (known i : ℕ) (condition : code.Tree CompareValues) (so_far new : List ℕ) → i < length conditions → condition ≡ get_or conditions i condition
     → ((k : ℕ) (c : code.Tree CompareValues) (other : ℕ) → k < i → k < length conditions → get_or conditions k c ≡ c → SaysEqual c known other → Contains so_far other)
     → ((other : ℕ) → Contains so_far other → Contains new other) → ((other : ℕ) → SaysEqual condition known other → Contains new other)
@@ -227,7 +227,7 @@ added_more conditions known i condition other old so_far new inside at says once
       })
     ]
 
--- what the clauses say
+-- the places that are added are all
 pub added_all : (conditions : List (code.Tree CompareValues)) (known n : ℕ) (old new : List ℕ) → length conditions ≤ n → Added conditions known n old new → (other : ℕ) → SomeSaysEqual conditions known other → Contains new other
 added_all conditions known n old new whole added other says = added.found says.0 says.1 other (omega (arith, whole, says.2)) says.2 says.3 says.4
 
@@ -252,7 +252,7 @@ reached_one conditions place = record {
   few = omega arith;
 }
 
--- the places that equal that at the next of them are there too
+-- the places that equal that at the next of them exist too
 pub reached_more : (conditions : List (code.Tree CompareValues)) (place i known : ℕ) (places new : List ℕ) → Reached conditions place i places → i < length places → known ≡ get_or places i 0
     → (others : List ℕ) × (new ≡ places ++ others) → ((other : ℕ) → SomeSaysEqual conditions known other → Contains new other)
     → ((other : ℕ) → Contains new other → Contains places other ⊎ SomeSaysEqual conditions known other) → (Contains places known → AreFew conditions places → AreFew conditions new) → Reached conditions place (i + 1) new

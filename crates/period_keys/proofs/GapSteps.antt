@@ -24,7 +24,7 @@ gap_at periods child day held from before alone = record {
 pub no_gap : (periods : List Period) (child : Period) (day : ℤ) → IsHeldTo periods child day → child.end ≤ℤ day → IsLeastOf (IsGap periods child) None
 no_gap periods child day held past = λ other gap. (let from : day ≤ℤ other = gap_from periods child day other held gap in let to : other <ℤ child.end = gap.0.1 in omega (arith, ints))
 
--- what was found before is no earlier than the day up to which one looks
+-- the day found before is no earlier than the day up to which one looks
 no_earlier : (Old : ℤ → Type 0) (found : Option ℤ) (until other : ℤ) → IsLeastOf Old found → IfSome found (λ day. until ≤ℤ day) → Old other → until ≤ℤ other
 no_earlier Old None until other least upto old = absurd (least other old)
 no_earlier Old (Some day) until other least upto old = let le : day ≤ℤ other = least.least other old in omega (arith, ints)

@@ -44,8 +44,8 @@ to_front {X} a e r =
     (subst (IsPermutation ((a ++ e) ++ r)) (append_assoc e a r) (IsPermutation-append_left r (a ++ e) (e ++ a) (IsPermutation-append_comm a e)))
 
 -- one list of a row of lists is changed
-pub changed_behind : {X : Type 0} (a b e s r : List X) → IsPermutation (a ++ s) (b ++ r) → IsPermutation (a ++ (e ++ s)) (b ++ (e ++ r))
-changed_behind a b e s r moved =
+pub changed_after : {X : Type 0} (a b e s r : List X) → IsPermutation (a ++ s) (b ++ r) → IsPermutation (a ++ (e ++ s)) (b ++ (e ++ r))
+changed_after a b e s r moved =
     IsPermutation-trans (a ++ (e ++ s)) (e ++ (a ++ s)) (b ++ (e ++ r)) (to_front a e s)
     (IsPermutation-trans (e ++ (a ++ s)) (e ++ (b ++ r)) (b ++ (e ++ r)) (IsPermutation-append_right e (a ++ s) (b ++ r) moved) (to_front e b r))
 
@@ -73,7 +73,7 @@ written test (e ∷ es) v w a b found moved = by_test (test e.0) (λ h. written 
     by_test true rest found =
         subst (λ (u : KeyRows). IsPermutation (a ++ (rows_in w ++ rows_of_groups es)) (b ++ (rows_in u ++ rows_of_groups es))) (sym (value_is e.1 v found))
         (changed_before a b (rows_in v) (rows_in w) (rows_of_groups es) moved)
-    by_test false rest found = changed_behind a b (rows_in e.1) (rows_of_groups (set_value test es w)) (rows_of_groups es) (rest found)
+    by_test false rest found = changed_after a b (rows_in e.1) (rows_of_groups (set_value test es w)) (rows_of_groups es) (rest found)
 
 pub keyed_written : (P : List Value × KeyRows → Type 0) (test : List Value → Bool) (es : Entries) (v w : KeyRows) → lookup test es ≡ Some v
     → ((k : List Value) → test k ≡ true → P (k, v) → P (k, w)) → AllByRecursion P es → AllByRecursion P (set_value test es w)
@@ -95,7 +95,7 @@ inserted_group (e ∷ es) k v none = by_order (λ h. inserted_group es k v h) (v
         → IsPermutation (rows_of_groups (match_ordering r ((k, v) ∷ e ∷ es) ((e.0, v) ∷ es) (e ∷ insert_entry values_cmp es k v))) (rows_in v ++ (rows_in e.1 ++ rows_of_groups es))
     by_order rest Less none = IsPermutation-refl (rows_in v ++ (rows_in e.1 ++ rows_of_groups es))
     by_order rest Equal none = absurd (not_there e.1 none)
-    by_order rest Greater none = changed_behind [] (rows_in v) (rows_in e.1) (rows_of_groups (insert_entry values_cmp es k v)) (rows_of_groups es) (rest none)
+    by_order rest Greater none = changed_after [] (rows_in v) (rows_in e.1) (rows_of_groups (insert_entry values_cmp es k v)) (rows_of_groups es) (rest none)
 
 pub keyed_inserted : (P : List Value × KeyRows → Type 0) (es : Entries) (k : List Value) (v : KeyRows) → lookup (is_at (values_cmp k)) es ≡ None → P (k, v) → AllByRecursion P es → AllByRecursion P (insert_entry values_cmp es k v)
 keyed_inserted P [] k v none p all = (p, tt)
@@ -131,7 +131,7 @@ unfolding IsDistinct
 distinct_rest e es h = h.1
 
 -- rows that all pass a test, or all fail it
-each_alike : {X : Type 0} (p : X → Bool) (b : Bool) (xs : List X) → ((x : X) → Contains xs x → p x ≡ b) → filter p xs ≡ cond b xs []
+pub each_alike : {X : Type 0} (p : X → Bool) (b : Bool) (xs : List X) → ((x : X) → Contains xs x → p x ≡ b) → filter p xs ≡ cond b xs []
 each_alike p true [] h = refl
 each_alike p false [] h = refl
 each_alike {X} p b (x ∷ xs) h = ap (λ t. cond t (x ∷ filter p xs) (filter p xs)) (h x (Contains-here x xs)) ∙ more b (each_alike p b xs (λ y c. h y (Contains-there x xs y c)))
@@ -164,7 +164,7 @@ pub group_of_key : (positions : List ℕ) (key : List Value) (groups : BTreeMap 
 group_of_key positions key groups grouped =
     found_rows positions key groups.entries (IsDistinct-from_sorted values_cmp (keys_of groups.entries) grouped.ordered) grouped.keyed
 
--- ---- groups after a write at a key that is there
+-- ---- groups after a write at a key that exists
 
 abbrev pub Groups : Type 0
 Groups = BTreeMap (List Value) KeyRows
@@ -202,7 +202,7 @@ in_group positions m key x grouped own there =
     subst (λ (xs : List VersionRow). Contains xs x) (group_of_key positions key m grouped)
     (in_filter (is_of_key positions key) (rows_of_groups m.entries) x there ((values_eq key (version_key positions x)).1 own))
 
--- its group without it leaves the others
+-- a group without one of its rows leaves the other rows
 pub taken_from : (positions : List ℕ) (m n : Groups) (key : List Value) (v w : KeyRows) (x : VersionRow) (rest : List VersionRow) → Some v ≡ get values_cmp m key → Writes m n key w
     → IsPermutation (rows_in v) (x ∷ rows_in w) → IsPermutation (rows_of_groups m.entries) (x ∷ rest) → IsPermutation (rows_of_groups n.entries) rest
 taken_from positions m n key v w x rest there writes taken moved =
@@ -222,7 +222,7 @@ still_grouped positions m n key v w x r there writes taken kept grouped =
     was true taken kept y c = Contains-permutation (x ∷ rows_in w) (rows_in v) y (IsPermutation-sym (rows_in v) (x ∷ rows_in w) taken) (Contains-there x (rows_in w) y c)
     was false taken kept y c = subst (λ (xs : List VersionRow). Contains xs y) kept c
 
--- and where none is left, the group may go
+-- and if none is left, the group may go
 pub emptied : (n o : Groups) (key : List Value) (w : KeyRows) → get values_cmp n key ≡ Some w → rows_in w ≡ []
     → o.entries ≡ remove_entry (is_at (values_cmp key)) n.entries → rows_of_groups o.entries ≡ rows_of_groups n.entries
 emptied n o key w there none removed = ap rows_of_groups removed ∙ removed_group (is_at (values_cmp key)) n.entries w there none

@@ -11,7 +11,7 @@ use Rattle.std.proofs.lemmas.List.Sorted.{IsPermutation-insert, IsPermutation-sy
 use Rattle.period_core.specs.declared.period.Period.{Period}
 use Rattle.period_keys.specs.Ordered.{AreInOrder}
 
--- where a place of the longer list was in the shorter one, if it is not the new one
+-- the place of an element of the longer list in the shorter one, if it is not the new one
 data Was : (i k : ℕ) → Type 0 where
   Before : (i k : ℕ) → k < i → Was i k
   New : (i k : ℕ) → k ≡ i → Was i k
@@ -92,7 +92,7 @@ from_start xs m x day order below is later k d ge inside =
       | inr le ↦ let here : m ≡ k = omega arith in let also : (get_or xs m d).start ≡ (get_or xs k d).start = ap (λ n. (get_or xs n d).start) here in omega (arith, ints)
     ]
 
--- what does not start by the day starts later
+-- a period that does not start by the day starts later
 pub later_start : (start day : ℤ) → (start ≤ℤ day → ⊥) → day <ℤ start
 later_start start day apart = by_lt_z {P = day <ℤ start} day start (λ less. less) (λ ge. absurd (apart ge))
 

@@ -95,7 +95,7 @@ index_less positions row rest old new key key_is taken others is = λ other. by_
         let apart : key ≡ other → ⊥ = λ same. (let passes : has_key positions other row ≡ true = (values_eq other (key_values positions row)).1 (sym same ∙ key_is) in cc) in
         subst (λ (xs : List Period). IsPermutation xs (periods_of_key positions rest other)) (sym (others other apart)) (shown other false e)
 
--- a row that an index has is taken out, and one that it has not is not there
+-- a row that an index has is taken out, and one that it has not is missing
 found : (r : Bool) (P Q : Type 0) → OnTrue r P → OnFalse r (Q → ⊥) → Q → P
 found true P Q is not q = is
 found false P Q is not q = absurd (not q)

@@ -1,6 +1,5 @@
 -- Worked rows: two rows that meet share no day of their key, two that overlap by a day share it; a child is uncovered on the day after its parent's last.
 use Rattle.std.proofs.Common.{◌≡◌, ◌+◌, ◌<◌, ◌<ℤ◌, ◌≤ℤ◌, zero, suc, ℤ, pos, true, List, [], ◌∷◌, inl, inr, refl, ap, arith, subst, sym}
-use Rattle.std.proofs.lemmas.List.Elements.{All-cons, All-nil}
 use Rattle.std.proofs.lemmas.Int.{ints}
 use Rattle.period_core.specs.declared.value.Value.TheVariants.{Int}
 use Rattle.period_core.specs.declared.row.PeriodRow.{PeriodRow}
@@ -12,7 +11,7 @@ use Rattle.sql_statements.specs.Trees.{Condition}
 use Rattle.catalog_core.proofs.lemmas.conditions.Truth.{test_view}
 use Rattle.catalog_core.specs.declared.condition.Comparand.TheVariants.{Literal, Position}
 use Rattle.catalog_core.specs.declared.condition.CompareValues.{CompareValues}
-use Rattle.period_keys.specs.FixedKeys.{AreSaidEqual, Equates, IsEquation, SayKeyWithin, SayValue}
+use Rattle.period_keys.specs.FixedKeys.{AreSaidEqual, IsComparison, SaysWithin, States}
 use Rattle.period_keys.specs.Keys.{ShareKeyOn, IsKeyClash, IsUncovered}
 
 -- key 1 with the department, over a period
@@ -51,7 +50,7 @@ uncovered-after_end = (
       let end : pos 32 ≡ parent.period.end = ap (λ (r : PeriodRow). r.period.end) (Contains-one first parent there) in omega (arith, ints),
 )
 
--- ---- the key that `1 = 3 AND 3 = 7` fixes, where places are counted from 0 and the values are numbers
+-- ---- the value that `1 = 3 AND 3 = 7` fixes, if places are counted from 0 and the values are numbers
 
 abbrev equal_to_fourth : CompareValues
 equal_to_fourth = record { left = Position 1; comparison = Equal; right = Position 3 }
@@ -63,14 +62,12 @@ abbrev both_conditions : List (code.Tree CompareValues)
 both_conditions = code.Test equal_to_fourth ∷ code.Test fourth_is_seven ∷ []
 
 -- the second of two values from place 0 on is said to be 7
-through_an_equal_place : SayKeyWithin both_conditions 0 2 (1 ∷ [])
-through_an_equal_place =
-    All-cons (λ position. (position < 2) × SayValue both_conditions (0 + position)) 1 [] (
-      omega arith,
-      (
-        3,
-        AreSaidEqual.further AreSaidEqual.itself (0, code.Test equal_to_fourth, omega arith, refl, (equal_to_fourth, refl, refl, inl (refl, refl))),
-        Int (pos 7),
-        (1, code.Test fourth_is_seven, omega arith, refl, subst (λ (c : Condition CompareValues). Equates IsEquation c 3 (Int (pos 7))) (sym (test_view fourth_is_seven)) (refl, inr (refl, refl))),
-      ),
-    ) (All-nil (λ position. (position < 2) × SayValue both_conditions (0 + position)))
+through_an_equal_place : SaysWithin both_conditions 0 2 Equal 1 (Int (pos 7))
+through_an_equal_place = (
+  omega arith,
+  (
+    3,
+    AreSaidEqual.further AreSaidEqual.itself (0, code.Test equal_to_fourth, omega arith, refl, (equal_to_fourth, refl, refl, inl (refl, refl))),
+    (1, code.Test fourth_is_seven, omega arith, refl, subst (λ (c : Condition CompareValues). States (IsComparison Equal) c 3 (Int (pos 7))) (sym (test_view fourth_is_seven)) (inr (refl, refl, refl))),
+  ),
+)

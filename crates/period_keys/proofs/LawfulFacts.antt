@@ -93,6 +93,7 @@ own_references catalog before change lawful number child reference parent day re
               (subst (λ (rows : List (List Value)). LacksParent own (state_after change before number day) keys rows) (unchanged change before reference.parent day parent_other) lacks),
         ))
 
+-- a lawful change leaves a lawful state
 pub stays_lawful : (catalog : List TableDef) (before : State) (change : Change) → IsLawfulState catalog before → IsLawfulChange catalog before change → IsLawfulState catalog (state_after change before)
 stays_lawful catalog before change lawful allowed = record {
   keys = λ table def is day shared. by_test table def is day (table == change.table) refl shared;

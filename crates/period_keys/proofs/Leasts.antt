@@ -12,7 +12,7 @@ pub IsLeastOf-same : (P Q : ℤ → Type 0) → ((day : ℤ) → (P day ↔ Q da
 IsLeastOf-same P Q same None h = λ day q. h day ((same day).1 q)
 IsLeastOf-same P Q same (Some day) h = record { faulty = (same day).0 h.faulty; least = λ other q. h.least other ((same other).1 q) }
 
--- the same of an answer that may fail
+-- a least day of an answer that may fail
 pub least_if_same : {E : Type 0} (P Q : ℤ → Type 0) → ((day : ℤ) → (P day ↔ Q day)) → (result : Result (Option ℤ) E) → IfOk result (IsLeastOf P) → IfOk result (IsLeastOf Q)
 least_if_same P Q same (Ok found) h = IsLeastOf-same P Q same found h
 least_if_same P Q same (Err e) h = tt

@@ -4,6 +4,7 @@ pub mod GapSteps
 pub mod Members
 pub mod Answered
 pub mod Pairs
+pub mod RowOrder
 pub mod SweepSteps
 pub mod InOrder
 pub mod Edited
@@ -23,9 +24,11 @@ pub mod Origins
 pub mod LawfulFacts
 pub mod VersionKeys
 pub mod Fixed
+pub mod FirstHeld
 pub mod EqualPlaces
 pub mod PlanParts
 pub mod FaultFacts
+pub mod Ranged
 pub mod ReferenceFacts
 pub mod TableLists
 pub mod Earlier

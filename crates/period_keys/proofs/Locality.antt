@@ -74,7 +74,7 @@ clash_of_both positions rows others day =
       ],
     )
 
--- what is at a key is what its rows have
+-- the periods at a key are those of its rows
 at_has : (positions : List ℕ) (rows : List PeriodRow) (at : List Value → List Period) → AreAtKeys positions rows at → (key : List Value) (period : Period)
     → (Contains (at key) period ↔ Contains (periods_of_key positions rows key) period)
 at_has positions rows at is key period = (
@@ -82,12 +82,12 @@ at_has positions rows at is key period = (
   λ c. Contains-permutation (periods_of_key positions rows key) (at key) period (IsPermutation-sym (at key) (periods_of_key positions rows key) (is key)) c,
 )
 
--- the same of an index
+-- the periods of an index at a key are those of its rows
 pub index_has : (positions : List ℕ) (rows : List PeriodRow) (index : KeyedPeriods) → IsIndexOf positions rows index → (key : List Value) (period : Period)
     → (Contains (periods_at index key) period ↔ Contains (periods_of_key positions rows key) period)
 index_has positions rows index is key period = at_has positions rows (periods_at index) is key period
 
--- where no two rows of a key share a day, a key's periods that do not go are those of its rows that stay
+-- if no two rows of a key share a day, a key's periods that do not go are those of its rows that stay
 pub kept_are_staying :
     (positions : List ℕ) (at : List Value → List Period) (before ended stay : List PeriodRow)
     → AreAtKeys positions before at → HasNoClash positions before → IsPermutation before (ended ++ stay)
@@ -117,7 +117,7 @@ kept_are_staying positions at before ended stay is none moved key period day =
           some_member Kept (at key) p in_index (both, kept),
     )
 
--- rows that stay do not clash where none did before
+-- rows that stay do not clash if none did before
 pub none_of_staying : (positions : List ℕ) (before ended stay : List PeriodRow) → HasNoClash positions before → IsPermutation before (ended ++ stay) → HasNoClash positions stay
 none_of_staying positions before ended stay none moved day h =
     none day (IsKeyClash-permutation positions day (ended ++ stay) before (IsPermutation-sym before (ended ++ stay) moved) (SomePair-right (ShareKeyOn positions day) ended stay h))

@@ -2,7 +2,7 @@
 use Rattle.std.proofs.Common.{◌≡◌, ◌<◌, ◌≤◌, ◌+◌, ◌∷◌, [], ◌∙◌, ℕ, zero, suc, List, length, drop, take, get_or, map, refl, sym, ap, arith}
 use Rattle.std.proofs.lemmas.List.{drop_more, get_or-map, get_or-take, length-take-le}
 
--- what was worked out for an element
+-- the result for an element at its place
 pub worked_at : {X Y : Type 0} (f : X → Y) (ys : List Y) (xs : List X) (i : ℕ) (y : Y) (x : X) → ys ≡ map f xs → i < length xs → y ≡ get_or ys i y → x ≡ get_or xs i x → y ≡ f x
 worked_at {X} {Y} f ys xs i y x made below y_is x_is =
     y_is ∙ ap (λ (zs : List Y). get_or zs i y) made ∙ get_or-map f xs i x y below ∙ ap f (sym x_is)

@@ -33,7 +33,7 @@ some_row : (rows : List VersionRow) → 0 < length rows → VersionRow
 some_row [] some = absurd (omega (arith, some))
 some_row (row ∷ rows) some = row
 
--- what stands at a place is the period of a row
+-- an item that is at its place has the period of a row
 pub contains_period : (rows : List VersionRow) (item : PlacedPeriod) → IsAt rows item → Contains (map period_of rows) item.period
 contains_period rows item (below, is) =
     let size : length (map period_of rows) ≡ length rows = length-map rows period_of in
@@ -58,7 +58,7 @@ module _ (rows : List VersionRow) (placed : PeriodBlocks) (gone : List Period) (
       let (item, in_block, (at, both, kept)) = member_of (IsKeptAt rows gone period day) block.items.items some in
       some_member (IsKept gone period day) (map period_of rows) item.period (contains_period rows item at) (both, kept)
 
-  -- what holds of no day in the blocks holds of none
+  -- a day that is in no block is a day of none
   none_missing : (day : ℤ) → (InBlocks day → ⊥) → Shares day → ⊥
   none_missing day none h =
       let (other, (k, below, is), kept) = member_of (IsKept gone period day) (map period_of rows) h in

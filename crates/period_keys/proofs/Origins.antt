@@ -1,4 +1,4 @@
--- Traced rows: at two places they have two origins, where the day's rows differ; in another order they are the same ones.
+-- Traced rows: at two places they have two origins, if the day's rows differ; in another order they are the same ones.
 use Rattle.std.proofs.Common.{◌≡◌, ◌+◌, ◌<◌, ◌≤◌, ◌∷◌, ◌∙◌, ℕ, ℤ, Bool, List, [], ap, arith, get_or, inl, inr, length, map, not, subst, sym}
 use Rattle.std.specs.Prelude.{◌↔◌, Contains, IsPermutation, filter}
 use Rattle.std.specs.List.{enumerate_from}
@@ -142,7 +142,7 @@ with_origins positions (t ∷ ts) apart (i, j, lt, below, both) =
 from_origins : (positions : List ℕ) (ts : List Traced) → OriginsShareKey positions ts → SomePair (SameTracedKey positions) ts
 from_origins positions ts (a, b, in_a, in_b, apart, same) = apart_pair (SameTracedKey positions) (λ x y e. sym e) ts a b in_a in_b (λ e. apart (ap (λ (t : Traced). t.origin) e)) same
 
--- where no two rows of a day shared the key before, two that stand after do exactly where two traced rows of different origins do
+-- if no two rows of a day shared the key before, two rows after it do exactly if two traced rows of different origins do
 pub of_origins : (positions : List ℕ) (action : Action) (day : ℤ) (rows after : List (List Value)) → IsPermutation after (rows_after action day rows) → (ShareKey positions rows → ⊥)
     → (ShareKey positions after ↔ OriginsShareKey positions (traced action day rows))
 of_origins positions action day rows after moved clean =

@@ -41,17 +41,19 @@ SomePair-left R xs ys (i, j, lt, below, both) =
     let first : i < length xs = omega arith in
     (i, j, lt, omega arith, λ d. subst (λ a. R a (get_or (xs ++ ys) j d)) (sym (get_or_append_left xs ys d i first)) (subst (R (get_or xs i d)) (sym (get_or_append_left xs ys d j below)) (both d)))
 
--- where an element of the second list stands among both
+-- the place of an element of the second list among both
 right_place : {X : Type 0} (xs ys : List X) (k : ℕ) (d : X) → get_or (xs ++ ys) (length xs + k) d ≡ get_or ys k d
 right_place xs ys k d =
     let back : length xs + k - length xs ≡ k = omega arith in
     get_or-append_right xs ys (length xs) (length xs + k) d refl (omega arith) ∙ ap (λ n. get_or ys n d) back
 
+-- a pair of the second of two lists is one of both together
 pub SomePair-right : {X : Type 0} (R : X → X → Type 0) (xs ys : List X) → SomePair R ys → SomePair R (xs ++ ys)
 SomePair-right R xs ys (i, j, lt, below, both) =
     let size : length (xs ++ ys) ≡ length xs + length ys = length-append xs ys in
     (length xs + i, length xs + j, omega arith, omega arith, λ d. subst (λ a. R a (get_or (xs ++ ys) (length xs + j) d)) (sym (right_place xs ys i d)) (subst (R (get_or ys i d)) (sym (right_place xs ys j d)) (both d)))
 
+-- a pair across two lists is one of both together
 pub SomePair-cross : {X : Type 0} (R : X → X → Type 0) (xs ys : List X) → SomeCross R xs ys → SomePair R (xs ++ ys)
 SomePair-cross R xs ys (x, y, (i, at_i, is_x), (j, at_j, is_y), pair) =
     let size : length (xs ++ ys) ≡ length xs + length ys = length-append xs ys in
@@ -63,11 +65,11 @@ SomePair-nil R (i, j, lt, below, both) = omega arith
 pub SomePair-one : {X : Type 0} (R : X → X → Type 0) (x : X) → SomePair R (x ∷ []) → ⊥
 SomePair-one R x (i, j, lt, below, both) = omega arith
 
--- where the entry at i stands after a swap of a and b
-abbrev pub StandsAfter : ℕ → ℕ → ℕ → ℕ → Type 0
-StandsAfter a b i k = ((i ≡ a) × (k ≡ b)) ⊎ (((i ≡ b) × (k ≡ a)) ⊎ ((i ≡ a → ⊥) × (i ≡ b → ⊥) × (k ≡ i)))
+-- the place of the entry at i after a swap of a and b
+abbrev pub IsPlaceAfterSwap : ℕ → ℕ → ℕ → ℕ → Type 0
+IsPlaceAfterSwap a b i k = ((i ≡ a) × (k ≡ b)) ⊎ (((i ≡ b) × (k ≡ a)) ⊎ ((i ≡ a → ⊥) × (i ≡ b → ⊥) × (k ≡ i)))
 
-stands : (a b i : ℕ) → (k : ℕ) × StandsAfter a b i k
+stands : (a b i : ℕ) → (k : ℕ) × IsPlaceAfterSwap a b i k
 stands a b i =
     elim (cases_lt i a) [
       | inl less ↦ apart (λ e. omega arith)
@@ -76,7 +78,7 @@ stands a b i =
         | inr le ↦ (b, inl (omega arith, refl))
       ]
     ] where
-      apart : (i ≡ a → ⊥) → (k : ℕ) × StandsAfter a b i k
+      apart : (i ≡ a → ⊥) → (k : ℕ) × IsPlaceAfterSwap a b i k
       apart other =
           elim (cases_lt i b) [
             | inl less ↦ (i, inr (inr (other, λ e. omega arith, refl)))
@@ -86,26 +88,26 @@ stands a b i =
             ]
           ]
 
-stands_apart : (a b i j k m : ℕ) → i < j → StandsAfter a b i k → StandsAfter a b j m → (k ≡ m → ⊥)
-stands_apart a b i j k m lt (inl p) (inl q) e = omega arith
-stands_apart a b i j k m lt (inl p) (inr (inl q)) e = omega arith
-stands_apart a b i j k m lt (inl p) (inr (inr q)) e = q.1 (omega arith)
-stands_apart a b i j k m lt (inr (inl p)) (inl q) e = omega arith
-stands_apart a b i j k m lt (inr (inl p)) (inr (inl q)) e = omega arith
-stands_apart a b i j k m lt (inr (inl p)) (inr (inr q)) e = q.0 (omega arith)
-stands_apart a b i j k m lt (inr (inr p)) (inl q) e = p.1 (omega arith)
-stands_apart a b i j k m lt (inr (inr p)) (inr (inl q)) e = p.0 (omega arith)
-stands_apart a b i j k m lt (inr (inr p)) (inr (inr q)) e = omega arith
+places_apart : (a b i j k m : ℕ) → i < j → IsPlaceAfterSwap a b i k → IsPlaceAfterSwap a b j m → (k ≡ m → ⊥)
+places_apart a b i j k m lt (inl p) (inl q) e = omega arith
+places_apart a b i j k m lt (inl p) (inr (inl q)) e = omega arith
+places_apart a b i j k m lt (inl p) (inr (inr q)) e = q.1 (omega arith)
+places_apart a b i j k m lt (inr (inl p)) (inl q) e = omega arith
+places_apart a b i j k m lt (inr (inl p)) (inr (inl q)) e = omega arith
+places_apart a b i j k m lt (inr (inl p)) (inr (inr q)) e = q.0 (omega arith)
+places_apart a b i j k m lt (inr (inr p)) (inl q) e = p.1 (omega arith)
+places_apart a b i j k m lt (inr (inr p)) (inr (inl q)) e = p.0 (omega arith)
+places_apart a b i j k m lt (inr (inr p)) (inr (inr q)) e = omega arith
 
-stands_below : (n a b i k : ℕ) → a < n → b < n → i < n → StandsAfter a b i k → k < n
-stands_below n a b i k ha hb hi (inl p) = omega arith
-stands_below n a b i k ha hb hi (inr (inl p)) = omega arith
-stands_below n a b i k ha hb hi (inr (inr p)) = omega arith
+place_below : (n a b i k : ℕ) → a < n → b < n → i < n → IsPlaceAfterSwap a b i k → k < n
+place_below n a b i k ha hb hi (inl p) = omega arith
+place_below n a b i k ha hb hi (inr (inl p)) = omega arith
+place_below n a b i k ha hb hi (inr (inr p)) = omega arith
 
-stands_there : {X : Type 0} (l : List X) (a b i k : ℕ) (d : X) → a < length l → b < length l → StandsAfter a b i k → get_or (swap l a b) k d ≡ get_or l i d
-stands_there l a b i k d ha hb (inl p) = let s = swapped_from_swap l (swap l a b) a b d ha hb refl in ap (λ n. get_or (swap l a b) n d) p.1 ∙ s.1 ∙ ap (λ n. get_or l n d) (sym p.0)
-stands_there l a b i k d ha hb (inr (inl p)) = let s = swapped_from_swap l (swap l a b) a b d ha hb refl in ap (λ n. get_or (swap l a b) n d) p.1 ∙ s.0 ∙ ap (λ n. get_or l n d) (sym p.0)
-stands_there l a b i k d ha hb (inr (inr p)) = let s = swapped_from_swap l (swap l a b) a b d ha hb refl in ap (λ n. get_or (swap l a b) n d) p.2 ∙ s.2 i p.0 p.1
+item_after_swap : {X : Type 0} (l : List X) (a b i k : ℕ) (d : X) → a < length l → b < length l → IsPlaceAfterSwap a b i k → get_or (swap l a b) k d ≡ get_or l i d
+item_after_swap l a b i k d ha hb (inl p) = let s = swapped_from_swap l (swap l a b) a b d ha hb refl in ap (λ n. get_or (swap l a b) n d) p.1 ∙ s.1 ∙ ap (λ n. get_or l n d) (sym p.0)
+item_after_swap l a b i k d ha hb (inr (inl p)) = let s = swapped_from_swap l (swap l a b) a b d ha hb refl in ap (λ n. get_or (swap l a b) n d) p.1 ∙ s.0 ∙ ap (λ n. get_or l n d) (sym p.0)
+item_after_swap l a b i k d ha hb (inr (inr p)) = let s = swapped_from_swap l (swap l a b) a b d ha hb refl in ap (λ n. get_or (swap l a b) n d) p.2 ∙ s.2 i p.0 p.1
 
 -- a symmetric relation of some two entries is one of some two in any order of the list
 pub SomePair-permutation : {X : Type 0} (R : X → X → Type 0) → ((x y : X) → R x y → R y x) → (xs ys : List X) → IsPermutation xs ys → SomePair R xs → SomePair R ys
@@ -115,15 +117,15 @@ SomePair-permutation {X} R flip xs ys moved pair =
     let (k, at_k) = stands a b i in
     let (m, at_m) = stands a b j in
     let same : length (swap l a b) ≡ length l = length-swap l a b in
-    let below_k : k < length l = stands_below (length l) a b i k ha hb (omega arith) at_k in
-    let below_m : m < length l = stands_below (length l) a b j m ha hb below at_m in
+    let below_k : k < length l = place_below (length l) a b i k ha hb (omega arith) at_k in
+    let below_m : m < length l = place_below (length l) a b j m ha hb below at_m in
     let there : (d : X) → R (get_or (swap l a b) k d) (get_or (swap l a b) m d) =
-    λ d. subst (λ x. R x (get_or (swap l a b) m d)) (sym (stands_there l a b i k d ha hb at_k)) (subst (R (get_or l i d)) (sym (stands_there l a b j m d ha hb at_m)) (both d)) in
+    λ d. subst (λ x. R x (get_or (swap l a b) m d)) (sym (item_after_swap l a b i k d ha hb at_k)) (subst (R (get_or l i d)) (sym (item_after_swap l a b j m d ha hb at_m)) (both d)) in
     elim (cases_lt k m) [
       | inl first ↦ (k, m, first, omega arith, there)
       | inr ge ↦ elim (cases_lt m k) [
         | inl second ↦ (m, k, second, omega arith, λ d. flip (get_or (swap l a b) k d) (get_or (swap l a b) m d) (there d))
-        | inr le ↦ absurd (stands_apart a b i j k m lt at_k at_m (omega arith))
+        | inr le ↦ absurd (places_apart a b i j k m lt at_k at_m (omega arith))
       ]
     ])
     ys moved

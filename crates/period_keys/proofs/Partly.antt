@@ -68,7 +68,7 @@ partly_moved first others second xs i moved partly = λ k d below.
 pub each_moved : (rows others : List PeriodRow) (xs : List PeriodIndex) → IsPermutation rows others → EachIndexes rows xs → EachIndexes others xs
 each_moved rows others xs moved each = λ k d below. index_moved (get_or xs k d).positions rows others (get_or xs k d).periods moved (each k d below)
 
--- a write at the place leaves those before it, and the others where it has the second rows
+-- a write at the place leaves those before it, and the others if it has the second rows
 pub partly_kept : (first second : List PeriodRow) (xs : List PeriodIndex) (i : ℕ) (w : PeriodIndex) → i < length xs → PartlyIndex first second xs i → Indexes second w → PartlyIndex first second (set xs i w) i
 partly_kept first second xs i w inside partly new = λ k d below.
     let size : length (set xs i w) ≡ length xs = length-set xs i w in
@@ -80,7 +80,7 @@ partly_kept first second xs i w inside partly new = λ k d below.
       ],
     )
 
--- what a slice of all indexes leaves in its vector
+-- a slice of all indexes, written back to its vector
 pub written_back : (n : ℕ) (items given new : List PeriodIndex) → given ≡ items → length given ≡ n → map positions_by new ≡ map positions_by given → take n (new ++ drop (length new) items) ≡ new
 written_back n items given new is size same =
     let lengths : length new ≡ length given = sym (length-map new positions_by) ∙ ap length same ∙ length-map given positions_by in

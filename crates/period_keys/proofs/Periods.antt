@@ -16,7 +16,7 @@ use Rattle.period_keys.specs.Index.{periods_at}
 use Rattle.period_keys.specs.declared.keyed_periods.KeyedPeriods.{KeyedPeriods}
 use Rattle.period_keys.specs.declared.ordered_periods.OrderedPeriods.{OrderedPeriods}
 
--- what a map of lists has at a key
+-- the list of a map of lists at a key
 abbrev pub read : {V : Type 0} → (V → List Period) → BTreeMap (List Value) V → List Value → List Period
 read items m key = option_map_or items (get values_cmp m key) []
 
@@ -45,11 +45,11 @@ read_moved items m n key w more u moved other =
     by_test true e = subst (λ (k : List Value). IsPermutation (items w) (read items m k ++ more)) ((values_eq key other).0 e) moved
     by_test false e = IsPermutation-refl (read items m other)
 
--- what a look-up found
+-- a look-up that found a list
 pub read_there : {V : Type 0} (items : V → List Period) (m : BTreeMap (List Value) V) (key : List Value) (v : V) → Some v ≡ get values_cmp m key → read items m key ≡ items v
 read_there items m key v e = ap (λ o. option_map_or items o []) (sym e)
 
--- what it found, or none
+-- a look-up that found a list, or none
 pub read_or : {V : Type 0} (items : V → List Period) (m : BTreeMap (List Value) V) (key : List Value) (v empty : V) → v ≡ unwrap_or (get values_cmp m key) empty → items empty ≡ [] → read items m key ≡ items v
 read_or {V} items m key v empty is none = by_found (get values_cmp m key) is
   where

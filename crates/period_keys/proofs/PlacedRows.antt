@@ -1,4 +1,4 @@
--- Rows at some places: the others are not touched by a change.
+-- Rows at some places: the rest are not touched by a change.
 use Rattle.std.proofs.Common.{◌≡◌, ◌⊎◌, ◌≤◌, ◌<◌, ◌+◌, ◌-◌, ◌++◌, ◌∷◌, [], ◌∙◌, ℕ, zero, suc, Bool, true, false, cond, List, append-nil, length, length-append, get_or, set, take, drop, refl, sym, ap, subst, inl, inr, arith}
 use Rattle.std.specs.List.{Contains, filter, swap_remove}
 use Rattle.std.specs.List.Sorted.{IsSorted}
@@ -106,7 +106,7 @@ one_row rows at d below =
 abbrev pub placed_as : Period → ℕ → PlacedPeriod
 placed_as period place = record { period = period; place = place }
 
--- what stands where the last took the place of another
+-- the element at a place that the last one took
 swapped_in : {X : Type 0} (xs : List X) (i last : ℕ) (x d : X) → i < length xs → last + 1 ≡ length xs → i < last → get_or (swap_remove xs i x) i d ≡ get_or xs last d
 swapped_in xs i last x d inside is below =
     let end : length xs - 1 ≡ last = omega arith in
@@ -128,7 +128,7 @@ front [] ys k d below = absurd (omega (arith, below))
 front (x ∷ xs) ys zero d below = refl
 front (x ∷ xs) ys (suc k) d below = front xs ys k d (omega (arith, below))
 
--- one row more, behind the others
+-- one row more, after the others
 pub placed_next : (rows before : List VersionRow) (row : VersionRow) (old new : PeriodBlocks) → rows ≡ before ++ row ∷ [] → ArePlaced before old → ((x : PlacedPeriod) → HasPlaced old x → HasPlaced new x)
     → HasPlaced new (record { period = row.period; place = length before }) → ArePlaced rows new
 placed_next rows before row old new is placed kept there =

@@ -21,7 +21,7 @@ touched action v = touches action (version_row v)
 abbrev pub joined : Plan → Plan → Plan
 joined p q = record { ended = p.ended ++ q.ended; added = p.added ++ q.added }
 
--- what an action that gives no rows adds
+-- the rows that an action adds that gives none
 added_by : (action : Action) (rows : List PlainRow) → inserted_by action ≡ [] → added action rows ≡ flat_map (replacements action) rows
 added_by action rows none = ap (λ (given : List InsertedRow). map plain_given given ++ flat_map (replacements action) rows) none
 
@@ -59,7 +59,7 @@ none_kept action test (v ∷ rows) h = by_test (none_kept action test rows h) (t
     by_test rest true true e f = absurd (let off : test v ≡ false = h v f in cc)
     by_test rest true false e f = ap (λ u. cond u (v ∷ filter (touched action) (filter test rows)) (filter (touched action) (filter test rows))) f ∙ rest
 
--- where each touched row passes a test, the plan over those that pass it is a plan over all
+-- if each touched row passes a test, the plan over those that pass it is a plan over all
 pub plan_of_passing : (action : Action) (test : VersionRow → Bool) (rows : List VersionRow) (p : Plan) → ((v : VersionRow) → touched action v ≡ true → test v ≡ true)
     → Plans action (filter test rows) p → IsPlanOf action rows p
 plan_of_passing action test rows p passes plans = record {
@@ -69,6 +69,7 @@ plan_of_passing action test rows p passes plans = record {
       (none_kept action (λ (v : VersionRow). not (test v)) rows (λ v t. ap not (passes v t))) plans;
 }
 
+-- a weaker fact holds of an Ok too
 pub if_ok : {X E : Type 0} (r : Result X E) (P Q : X → Type 0) → ((x : X) → P x → Q x) → IfOk r P → IfOk r Q
 if_ok (Ok x) P Q f h = f x h
 if_ok (Err e) P Q f h = h

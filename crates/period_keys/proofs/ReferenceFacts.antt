@@ -1,4 +1,4 @@
--- What is known of the tables as all references of a catalog are judged, and the days that one reference or one table gives.
+-- The state of the tables as all references of a catalog are judged, and the days that one reference or one table gives.
 use Rattle.std.proofs.Common.{◌≡◌, ◌⊎◌, ◌+◌, ◌<◌, ◌≤◌, ◌∙◌, ◌∷◌, [], ℕ, zero, suc, ℤ, List, Option, None, Some, ap, arith, get_or, inl, inr, length, map, refl, subst, sym}
 use Rattle.std.specs.List.{Contains, slice_get}
 use Rattle.std.proofs.lemmas.Option.{slice_get_read, slice_get_within}
@@ -33,7 +33,7 @@ with_indexes (t ∷ ts) (suc zero) table is = (t, refl, rows_is (rows_by_key t) 
     rows_is x y e = cc
 with_indexes (t ∷ ts) (suc (suc place)) table is = with_indexes ts (suc place) table is
 
--- its rows hold the state
+-- the rows of a table of the catalog hold its state
 pub held_by : (catalog : List TableDef) (state : State) (tables : List TableRows) (number : ℕ) (def : TableDef) → HoldCurrent catalog state (map rows_by_key tables) → table_of catalog number ≡ Some def
     → (table : TableRows) × (table_of tables number ≡ Some table) × HoldsCurrent state number def (rows_by_key table)
 held_by catalog state tables number def hold is =

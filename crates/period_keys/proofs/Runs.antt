@@ -80,8 +80,8 @@ length_drop xs zero h = let e : length (drop 0 xs) ≡ length xs = ap length (dr
 length_drop [] (suc s) h = absurd (omega (arith, h))
 length_drop (y ∷ ys) (suc s) h = let e : s + length (drop s ys) ≡ length ys = length_drop ys s (omega (arith, h)) in omega arith
 
-nothing_behind : {X : Type 0} (xs : List X) (s : ℕ) → s ≤ length xs → drop s xs ≡ [] → s ≡ length xs
-nothing_behind xs s h none = let e : length (drop s xs) ≡ 0 = ap length none in let size : s + length (drop s xs) ≡ length xs = length_drop xs s h in omega arith
+nothing_after : {X : Type 0} (xs : List X) (s : ℕ) → s ≤ length xs → drop s xs ≡ [] → s ≡ length xs
+nothing_after xs s h none = let e : length (drop s xs) ≡ 0 = ap length none in let size : s + length (drop s xs) ≡ length xs = length_drop xs s h in omega arith
 
 all_dropped : {X : Type 0} (xs : List X) (s : ℕ) → length xs ≤ s → drop s xs ≡ []
 all_dropped [] zero h = refl
@@ -106,7 +106,7 @@ fits_order xs x place fits order = insert_in_order xs place x fits.0 order fits.
 pub settles : (settled place : ℕ) (periods : List Period) (x : Period) → AreRuns settled periods → drop settled periods ≡ [] → FitsAt x.start (take settled periods) place
     → AreRuns (settled + 1) (insert periods place x)
 settles settled place periods x runs none fits =
-    let whole : settled ≡ length periods = nothing_behind periods settled runs.within none in
+    let whole : settled ≡ length periods = nothing_after periods settled runs.within none in
     let all : take settled periods ≡ periods = take_all settled periods (omega arith) in
     let inside : place ≤ length periods = subst (λ (xs : List Period). place ≤ length xs) all fits.0 in
     let size : length (insert periods place x) ≡ length periods + 1 = length-insert periods place x inside in
@@ -130,7 +130,7 @@ comes_late settled place p periods x runs is fits =
       late = subst AreInOrder (sym (drop_insert periods settled p x runs.within)) (fits_order (drop settled periods) x p fits runs.late);
     })
 
--- where a period comes in: among the settled ones, or the late ones
+-- the place at which a period arrives: among the settled ones, or the late ones
 abbrev pub ComesIn : ℤ → ℕ → List Period → ℕ → Bool → Type 0
 ComesIn day settled periods place settles =
     (settles ≡ true → (drop settled periods ≡ []) × FitsAt day (take settled periods) place)

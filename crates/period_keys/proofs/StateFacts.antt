@@ -1,4 +1,4 @@
--- When rows in memory hold a lawful state: by the clashes and the uncovered children among them.
+-- Rows in memory that hold a lawful state: by the clashes and the uncovered children among them.
 use Rattle.std.proofs.Common.{◌≡◌, ◌↔◌, ◌⊎◌, ◌<◌, ◌≤◌, ◌+◌, ◌∙◌, ℕ, zero, suc, ℤ, true, false, List, Option, None, Some, ap, arith, inl, inr, length, map, refl, subst, sym}
 use Rattle.std.specs.Prelude.{IsTrue, is_none, is_some}
 use Rattle.std.specs.List.{Contains, slice_get}
@@ -22,12 +22,12 @@ use Rattle.period_keys.proofs.LawfulFacts.{definition_is, lacking_of_uncovered}
 use Rattle.period_keys.proofs.Pairs.{SomePair-permutation}
 use Rattle.period_keys.proofs.ReferenceFacts.{held_by}
 
--- no day was found exactly where there is none
+-- no day was found exactly if there is none
 pub none_found : (P : ℤ → Type 0) (found : Option ℤ) → IsLeastOf P found → (IsTrue (is_none found) ↔ ((day : ℤ) → P day → ⊥))
 none_found P None least = (λ t. least, λ none. refl)
 none_found P (Some day) least = (λ t. cc, λ none. absurd (none day least.faulty))
 
--- two rows that hold the table share its key exactly where the rows clash
+-- two rows that hold the table share its key exactly if the rows clash
 pub clash_of_state : (positions : List ℕ) (rows : List PeriodRow) (state : State) (number : ℕ) → HoldsTable rows state number → (day : ℤ) → (IsKeyClash positions rows day ↔ ShareKey positions (state number day))
 clash_of_state positions rows state number holds day =
     let Same : List Value → List Value → Type 0 = λ v w. values_at positions v ≡ values_at positions w in
@@ -36,7 +36,7 @@ clash_of_state positions rows state number holds day =
       λ h. law.1 (SomePair-permutation Same (λ v w e. sym e) (state number day) (values_on rows day) (IsPermutation-sym (values_on rows day) (state number day) (holds day)) h),
     )
 
--- a reference is covered where no child is found without its parent
+-- a reference is covered if no child is found without its parent
 pub covered_of_found : (catalog : List TableDef) (tables : List TableRows) (state : State) (number : ℕ) (child : TableDef) (reference : Reference) (parent : TableDef) (rows : List PeriodRow) (own keys : List ℕ) (found : Option ℤ)
     → HoldCurrent catalog state (map rows_by_key tables) → HoldsTable rows state number → table_of catalog reference.parent ≡ Some parent
     → own ≡ own_positions child reference → keys ≡ parent_positions parent reference
@@ -126,7 +126,7 @@ pub state_unlawful : (catalog : List TableDef) (state : State) (number : ℕ) (d
     → (IsTrue false ↔ IsLawfulState catalog state)
 state_unlawful catalog state number def is law = (λ t. cc, λ lawful. law.1 (table_of_lawful catalog state number def lawful is))
 
--- a table's parents are indexed where all references are
+-- a table's parents are indexed if all references are
 pub parents_indexed : (catalog : List TableDef) (tables : List TableRows) (number : ℕ) (def : TableDef) → HaveIndexes catalog tables → table_of catalog number ≡ Some def → AreParentsIndexed catalog def tables
 parents_indexed catalog tables number def have is reference there parent parent_is = (have number def is reference parent there parent_is).parents
 

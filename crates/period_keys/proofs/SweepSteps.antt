@@ -57,7 +57,7 @@ same_run rows n latest i d order below last lt same =
       | inr ge ↦ let here : i ≡ n - 1 = omega arith in ap (λ m. (get_or rows m d).values) here ∙ sym last
     ]
 
--- the least day of the next entry and an earlier one: its first, where the one that ends latest still holds then
+-- the least day of the next entry and an earlier one: its first, if the one that ends latest still holds then
 new_least :
     (rows : List PeriodRow) (n latest : ℕ) (d : PeriodRow) (found : Option ℤ) → AllPairs NotAfter rows → n < length rows → latest < n
     → ((e : PeriodRow) → (get_or rows latest e ≡ get_or rows latest d) × (get_or rows n e ≡ get_or rows n d))
@@ -150,14 +150,14 @@ next_latest rows n latest result order below place last reach picked =
 HoldSame-sym : (day : ℤ) (a b : PeriodRow) → HoldSame day a b → HoldSame day b a
 HoldSame-sym day a b h = (sym h.0, (h.1.1, h.1.0))
 
--- what rows repeat does not depend on their order
+-- a repeat among rows does not depend on their order
 pub repeats_moved : (rows others : List PeriodRow) → IsPermutation rows others → (day : ℤ) → (Repeats others day ↔ Repeats rows day)
 repeats_moved rows others moved day = (
   SomePair-permutation (HoldSame day) (HoldSame-sym day) others rows (IsPermutation-sym rows others moved),
   SomePair-permutation (HoldSame day) (HoldSame-sym day) rows others moved,
 )
 
--- two entries share a key where two rows of keys hold the same values
+-- two entries share a key if two rows of keys hold the same values
 pub keys_repeat : (positions : List ℕ) (rows : List PeriodRow) (day : ℤ) → (Repeats (map (key_row positions) rows) day ↔ IsKeyClash positions rows day)
 keys_repeat positions rows day =
     let f = key_row positions in

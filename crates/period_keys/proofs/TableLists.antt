@@ -33,6 +33,7 @@ set_elsewhere (x ∷ ts) (suc place) (suc other) t off = set_elsewhere ts place 
 
 -- ---- one element more
 
+-- a table of a list keeps its place when one more is added
 pub more_first : {T : Type 0} (ts : List T) (t x : T) (place : ℕ) → slice_get ts place ≡ Some x → slice_get (ts ++ t ∷ []) place ≡ Some x
 more_first [] t x place there = cc
 more_first (y ∷ ts) t x zero there = there
@@ -42,6 +43,7 @@ pub more_last : {T : Type 0} (ts : List T) (t : T) → slice_get (ts ++ t ∷ []
 more_last [] t = refl
 more_last (y ∷ ts) t = more_last ts t
 
+-- a table of a list with one more is one of the list, or the last
 pub more_cases : {T : Type 0} (ts : List T) (t x : T) (place : ℕ) → slice_get (ts ++ t ∷ []) place ≡ Some x → (slice_get ts place ≡ Some x) ⊎ ((place ≡ length ts) × (x ≡ t))
 more_cases [] t x zero there = inr (refl, sym (value_is t x there))
 more_cases [] t x (suc place) there = cc
@@ -69,7 +71,7 @@ have_more_trans a b c first second = record {
   indexed = λ number positions there. second.indexed number positions (first.indexed number positions there);
 }
 
--- what was indexed is so still, where one table is written that has the same indexes or more
+-- an index stays if one table is written that has equal indexes or more
 pub indexed_set : (tables : List TableRows) (place : ℕ) (old new : TableRows) → slice_get tables place ≡ Some old → ((positions : List ℕ) → Contains old.indexed positions → Contains new.indexed positions)
     → (number : ℕ) (positions : List ℕ) → IsIndexedBy tables number positions → IsIndexedBy (set tables place new) number positions
 indexed_set tables place old new there more zero positions (table, is, has) = cc
@@ -100,10 +102,11 @@ have_more_last old tables table more zero positions (t, is, has) = cc
 have_more_last old tables table more (suc place) positions there =
     let (t, is, has) = more.indexed (suc place) positions there in (t, more_first tables table t place is, has)
 
+-- tables with more indexes are as many as before
 pub same_count : (old new : List TableRows) → HaveMoreIndexes old new → length new ≡ length old
 same_count old new more = sym (length-map new rows_by_key) ∙ ap length more.same ∙ length-map old rows_by_key
 
--- what a reference needs is there still
+-- the indexes of a reference stay
 pub indexed_still : (old new : List TableRows) (number : ℕ) (child : TableDef) (reference : Reference) (parent : TableDef) → HaveMoreIndexes old new → IsIndexed old number child reference parent
     → IsIndexed new number child reference parent
 indexed_still old new number child reference parent more is = record {
@@ -140,7 +143,7 @@ written_at tables place table below =
     let next : place + 1 ≡ suc place = omega arith in
     ap (table_of (set tables place table)) next ∙ set_here tables place table below
 
--- what a slice of a whole vector leaves in it
+-- a slice of a whole vector, written over it
 pub written_over : {T : Type 0} (n : ℕ) (items given new : List T) → given ≡ items → length given ≡ n → length new ≡ length given → take n (new ++ drop (length new) items) ≡ new
 written_over n items given new is size same =
     let of_items : length given ≡ length items = ap length is in

@@ -19,7 +19,7 @@ pub record HoldsCurrent (state : State) (number : ℕ) (def : TableDef) (table :
   pub keyed : table.positions ≡ key_positions def
   pub holds : HoldsTable (map row_of table.rows) state number
 
--- so do the rows of each table of the catalog
+-- the rows of each table of the catalog hold the state
 abbrev pub HoldCurrent : List TableDef → State → List RowsByKey → Type 0
 HoldCurrent catalog state tables =
     (number : ℕ) (def : TableDef) → table_of catalog number ≡ Some def
@@ -46,20 +46,20 @@ abbrev pub IsIndexedBy : List TableRows → ℕ → List ℕ → Type 0
 IsIndexedBy tables number positions =
     (table : TableRows) × (table_of tables number ≡ Some table) × Contains table.indexed positions
 
--- those of the child by a reference's own columns, those of the parent by the columns referred to
+-- the indexes of the child by a reference's own columns, of the parent by the columns referred to
 pub record IsIndexed (tables : List TableRows) (number : ℕ) (child : TableDef)
     (reference : Reference) (parent : TableDef) : Type 0 where
   pub children : IsIndexedBy tables number (own_positions child reference)
   pub parents : IsIndexedBy tables reference.parent (parent_positions parent reference)
 
--- so it is for each reference of a table
+-- each reference of a table has its indexes
 abbrev pub AreReferencesIndexed : List TableDef → List TableRows → ℕ → TableDef → Type 0
 AreReferencesIndexed catalog tables number child =
     (reference : Reference) (parent : TableDef) → Contains child.references reference
     → table_of catalog reference.parent ≡ Some parent
     → IsIndexed tables number child reference parent
 
--- and for each table of the catalog
+-- each table of the catalog has the indexes of its references
 abbrev pub HaveIndexes : List TableDef → List TableRows → Type 0
 HaveIndexes catalog tables =
     (number : ℕ) (child : TableDef) → table_of catalog number ≡ Some child
@@ -77,7 +77,7 @@ IsParentIndexed catalog reference tables =
     (parent : TableDef) → table_of catalog reference.parent ≡ Some parent
     → IsIndexedBy tables reference.parent (parent_positions parent reference)
 
--- so are those of all parents of a child
+-- the rows of all parents of a child are indexed
 abbrev pub AreParentsIndexed : List TableDef → TableDef → List TableRows → Type 0
 AreParentsIndexed catalog child tables =
     (reference : Reference) → Contains child.references reference

@@ -1,4 +1,4 @@
--- What is known as a plan is judged: the state before it, and which rows hold it.
+-- The state before a plan, and the rows that hold it, as the plan is judged.
 use Rattle.std.specs.Prelude.{◌≡◌, ℕ, ℤ, List, Some, map}
 use Rattle.std.specs.List.{Any}
 use Rattle.period_core.specs.declared.row.PeriodRow.{PeriodRow}
@@ -18,7 +18,7 @@ use Rattle.period_keys.specs.Lawful.{own_positions, parent_positions, state_afte
 use Rattle.period_keys.specs.TableRows.{TableRows}
 use Rattle.period_keys.specs.Planned.{IsPlanOf}
 
--- the plan is that of a change over its table's current rows, which hold a lawful state
+-- the plan is a change's over its table's current rows, which hold a lawful state
 pub record IsPlanned (catalog : List TableDef) (before : State) (change : Change)
     (current : List VersionRow) (plan : Plan) : Type 0 where
   pub lawful : IsLawfulState catalog before
@@ -66,7 +66,7 @@ IsFaultBy catalog before change number child day reference =
     (parent : TableDef) × (table_of catalog reference.parent ≡ Some parent)
     × LacksParentBy (state_after change before) number child reference parent day
 
--- the same by one of the table's references
+-- a fault by one of the table's references
 abbrev pub IsFaultOf : List TableDef → State → Change → ℕ → TableDef → ℤ → Type 0
 IsFaultOf catalog before change number child day =
     Any (IsFaultBy catalog before change number child day) child.references

@@ -25,16 +25,16 @@ abbrev pub periods_of_key : List ℕ → List PeriodRow → List Value → List 
 periods_of_key positions rows key =
     map (λ (row : PeriodRow). row.period) (filter (has_key positions key) rows)
 
--- for each key the periods at it are those of its rows, in some order
+-- for each key the periods at it are its rows' periods, in some order
 abbrev pub AreAtKeys : List ℕ → List PeriodRow → (List Value → List Period) → Type 0
 AreAtKeys positions rows at =
     (key : List Value) → IsPermutation (at key) (periods_of_key positions rows key)
 
--- the same of an index
+-- an index has the periods of the rows at their keys
 abbrev pub IsIndexOf : List ℕ → List PeriodRow → KeyedPeriods → Type 0
 IsIndexOf positions rows index = AreAtKeys positions rows (periods_at index)
 
--- the earlier of two days that may be there
+-- the earlier of two days, either of which may be absent
 abbrev pub earlier : Option ℤ → Option ℤ → Option ℤ
 earlier None other = other
 earlier (Some day) None = Some day

@@ -59,12 +59,12 @@ abbrev pub IsEachCovered : List ℕ → List PeriodRow → List ℕ → List Per
 IsEachCovered own children keys parents =
     (day : ℤ) → IsUncovered own children keys parents day → ⊥
 
--- the day is one of these, and none of these is earlier
+-- the day is one of the days, and none of them is earlier
 pub record IsLeastDay (IsFaulty : ℤ → Type 0) (day : ℤ) : Type 0 where
   pub faulty : IsFaulty day
   pub least : (other : ℤ) → IsFaulty other → day ≤ℤ other
 
--- the least of these days, or none where there is none
+-- the least of the days, or none if there is none
 abbrev pub IsLeastOf : (ℤ → Type 0) → Option ℤ → Type 0
 IsLeastOf IsFaulty found =
     MatchOption found ((day : ℤ) → IsFaulty day → ⊥) (IsLeastDay IsFaulty)

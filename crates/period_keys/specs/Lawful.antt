@@ -17,11 +17,11 @@ use Rattle.period_keys.specs.Positions.{positions_of_places}
 abbrev pub key_positions : TableDef → List ℕ
 key_positions def = positions_of_places def def.key
 
--- those of a reference's own columns, in the child
+-- the positions of a reference's own columns, in the child
 abbrev pub own_positions : TableDef → Reference → List ℕ
 own_positions child reference = positions_of_places child reference.own
 
--- those of the columns in the parent that they refer to
+-- the positions of the columns in the parent that they refer to
 abbrev pub parent_positions : TableDef → Reference → List ℕ
 parent_positions parent reference = positions_of_places parent reference.keys
 
@@ -54,7 +54,7 @@ LacksParentBy state number child reference parent day =
     LacksParent (own_positions child reference) (state number day)
     (parent_positions parent reference) (state reference.parent day)
 
--- the same of some table and some reference of it
+-- a child without a parent, of some table and some reference of it
 abbrev pub IsUnreferred : List TableDef → State → ℤ → Type 0
 IsUnreferred catalog state day =
     (number : ℕ) × (child : TableDef) × (reference : Reference) × (parent : TableDef)
@@ -83,7 +83,7 @@ IsCoveredBy catalog state number child reference =
     (parent : TableDef) → table_of catalog reference.parent ≡ Some parent → (day : ℤ)
     → LacksParentBy state number child reference parent day → ⊥
 
--- the same of one table: no two of its rows share its key, and each has its parents
+-- one table is lawful: no two of its rows share its key, and each has its parents
 pub record IsLawfulTable (catalog : List TableDef) (state : State) (number : ℕ) (def : TableDef)
     : Type 0 where
   pub keys : (day : ℤ) → ShareKey (key_positions def) (state number day) → ⊥
@@ -103,7 +103,7 @@ pub record IsLawfulChange (catalog : List TableDef) (before : State) (change : C
 abbrev pub HoldsTable : List PeriodRow → State → ℕ → Type 0
 HoldsTable rows state table = (day : ℤ) → IsPermutation (values_on rows day) (state table day)
 
--- these are the positions of the key of the table of this number
+-- the positions of the key of the table of this number
 abbrev pub IsKeyOf : List TableDef → ℕ → List ℕ → Type 0
 IsKeyOf catalog table positions =
     (def : TableDef) × (table_of catalog table ≡ Some def) × (positions ≡ key_positions def)

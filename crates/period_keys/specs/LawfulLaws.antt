@@ -1,4 +1,4 @@
--- What the faults of a change are among the period rows that are current after it. Each law is the
+-- The faults of a change, among the period rows that are current after it. Each law is the
 -- contract of a function of this crate.
 use Rattle.std.specs.Prelude.{◌≡◌, ◌↔◌, ◌⊎◌, ℕ, ℤ, List, Some}
 use Rattle.period_core.specs.declared.row.PeriodRow.{PeriodRow}

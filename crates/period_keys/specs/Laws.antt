@@ -8,13 +8,13 @@ use Rattle.period_keys.specs.Keys.{HasNoClash, IsKeyClash, IsUncovered}
 use Rattle.period_keys.specs.Days.{LacksParent, ShareKey}
 use Rattle.period_keys.specs.Index.{AddsClash, AreAtKeys}
 
--- period rows clash on a day where two of the rows that hold on it have equal keys
+-- period rows clash on a day if two of the rows that hold on it have equal keys
 abbrev pub ClashesAreOfDays : Type 0
 ClashesAreOfDays =
     (positions : List ℕ) (rows : List PeriodRow) (day : ℤ)
     → (IsKeyClash positions rows day ↔ ShareKey positions (values_on rows day))
 
--- a child is uncovered on a day where one that holds on it has no parent among those that do
+-- a child is uncovered on a day if one that holds on it has no parent among those that do
 abbrev pub UncoveredAreOfDays : Type 0
 UncoveredAreOfDays =
     (own : List ℕ) (children : List PeriodRow) (keys : List ℕ) (parents : List PeriodRow)

@@ -1,4 +1,4 @@
--- What is kept of a key before its other values.
+-- The integer that is kept of a key before its other values.
 use Rattle.std.specs.Prelude.{ℤ, List, ◌∷◌, Option, Some, None}
 use Rattle.period_core.specs.declared.value.Value.{Value}
 use Rattle.period_core.specs.declared.value.Value.TheVariants.{Int}

@@ -1,6 +1,7 @@
 pub mod Positions
 pub mod Leading
 pub mod Keys
+pub mod Ranges
 pub mod Days
 pub mod Ordered
 pub mod Between

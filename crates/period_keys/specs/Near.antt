@@ -11,7 +11,8 @@ IsAt rows item =
     (item.place < length rows)
     × ((d : VersionRow) → (slice_index_or rows item.place d).period ≡ item.period)
 
--- it does, the period is not among those that go, and it shares the day with another
+-- an item is kept at a day: its row has its period, which is not among those that go, and shares
+-- the day with another
 abbrev pub IsKeptAt : List VersionRow → List Period → Period → ℤ → PlacedPeriod → Type 0
 IsKeptAt rows gone period day item =
     IsAt rows item × BothHold day period item.period × (Contains gone item.period → ⊥)

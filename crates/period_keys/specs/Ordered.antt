@@ -6,7 +6,7 @@ use Rattle.period_core.specs.declared.period.Period.{Period}
 abbrev pub AreInOrder : List Period → Type 0
 AreInOrder = AllPairs (λ first second. first.start ≤ℤ second.start)
 
--- those before the place start by the day, and those from there on later
+-- the periods before the place start by the day, and those from there on later
 abbrev pub FitsAt : ℤ → List Period → ℕ → Type 0
 FitsAt day periods place =
     (place ≤ length periods)

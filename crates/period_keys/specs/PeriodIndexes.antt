@@ -7,7 +7,7 @@ use Rattle.period_keys.specs.declared.period_indexes.PeriodIndex.{PeriodIndex}
 use Rattle.period_keys.specs.Index.{IsIndexOf}
 use Rattle.period_keys.specs.Keys.{key_values}
 
--- the index has the periods of these rows, by their values at its positions
+-- the index has the periods of the rows, by their values at its positions
 abbrev pub Indexes : List PeriodRow → PeriodIndex → Type 0
 Indexes rows index = IsIndexOf index.positions rows index.periods
 
@@ -15,7 +15,7 @@ Indexes rows index = IsIndexOf index.positions rows index.periods
 abbrev pub EachIndexes : List PeriodRow → List PeriodIndex → Type 0
 EachIndexes rows indexes = All (Indexes rows) indexes
 
--- those before this place have the first rows, the others the second
+-- the indexes before this place have the first rows, the rest the second
 abbrev pub PartlyIndex : List PeriodRow → List PeriodRow → List PeriodIndex → ℕ → Type 0
 PartlyIndex first second indexes count =
     (k : ℕ) (d : PeriodIndex) → k < length indexes
@@ -26,6 +26,6 @@ PartlyIndex first second indexes count =
 abbrev pub positions_by : PeriodIndex → List ℕ
 positions_by index = index.positions
 
--- these are the rows' keys by each of the positions
+-- the rows' keys by each of the positions
 abbrev pub AreKeysByEach : List PeriodRow → List (List ℕ) → List (List (List Value)) → Type 0
 AreKeysByEach rows each keys = keys ≡ map (λ positions. map (key_values positions) rows) each

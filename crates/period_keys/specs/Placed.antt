@@ -7,18 +7,18 @@ use Rattle.period_keys.specs.declared.block.Block.{Block}
 use Rattle.period_keys.specs.declared.period_blocks.PeriodBlocks.{PeriodBlocks}
 use Rattle.period_keys.specs.declared.placed_period.PlacedPeriod.{PlacedPeriod}
 
--- the period is there with this place
+-- the period is among them, with this place
 abbrev pub HasPlaced : PeriodBlocks → PlacedPeriod → Type 0
 HasPlaced placed item =
     Any (λ (block : Block). Contains block.items.items item) placed.blocks.items
 
--- no row's period is missing, with its place; others may be there too
+-- each row's period is among them, with its place; there may be more
 abbrev pub ArePlaced : List VersionRow → PeriodBlocks → Type 0
 ArePlaced rows placed =
     (place : ℕ) (d : VersionRow) → place < length rows
     → (HasPlaced placed
     (record { period = (slice_index_or rows place d).period; place = place }) → ⊥) → ⊥
 
--- the same of blocks in a box
+-- blocks in a box that have the places of the rows
 abbrev pub ArePlacedIn : List VersionRow → Box PeriodBlocks Global → Type 0
 ArePlacedIn rows boxed = ArePlaced rows boxed.value

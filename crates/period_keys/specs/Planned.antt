@@ -5,7 +5,7 @@ use Rattle.catalog_core.specs.declared.change.Action.{Action}
 use Rattle.catalog_core.specs.declared.change.Plan.{Plan}
 use Rattle.portion_dml.specs.Plans.{Plans}
 
--- it is the action's plan over these rows, listed in some order
+-- a plan is the action's over these rows, listed in some order
 pub record IsPlanOf (action : Action) (rows : List VersionRow) (plan : Plan) : Type 0 where
   pub listed : List VersionRow
   pub are_rows : IsPermutation rows listed

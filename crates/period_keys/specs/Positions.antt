@@ -1,4 +1,4 @@
--- Where the columns of a key or of a reference have their values in a row.
+-- The positions of the columns of a key or of a reference among a row's values.
 use Rattle.std.specs.Prelude.{◌==◌, ℕ, List, Option, filter_map, map}
 use Rattle.std.specs.List.{position}
 use Rattle.catalog_core.specs.table.TableWords.{value_columns}

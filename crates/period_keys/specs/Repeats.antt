@@ -2,14 +2,18 @@
 use Rattle.std.specs.Prelude.{◌≡◌, ◌<ℤ◌, ◌≤ℤ◌, ◌<◌, ℕ, ℤ, List, Option, MatchOption}
 use Rattle.std.specs.Prelude.{slice_index_or}
 use Rattle.std.specs.Cmp.{IsTotalOrder}
+use Rattle.std.proofs.lemmas.Cmp.{int_cmp_total, on_total, then_total}
 use Rattle.period_core.specs.Order.{row_cmp}
+use Rattle.period_core.specs.OrderLaws.{values_cmp_total}
 use Rattle.period_core.specs.declared.row.PeriodRow.{PeriodRow}
-use Rattle.coalesce_core.proofs.Order as order
 use Rattle.period_keys.specs.Keys.{BothHold, SomePair, key_values}
 
 -- the order of rows is total
 abbrev pub row_cmp_total : IsTotalOrder row_cmp
-row_cmp_total = order.row_cmp_total
+row_cmp_total =
+    then_total (on_total (λ (r : PeriodRow). r.values) values_cmp_total)
+    (then_total (on_total (λ (r : PeriodRow). r.period.start) int_cmp_total)
+    (on_total (λ (r : PeriodRow). r.period.end) int_cmp_total))
 
 -- the row with the values of its key alone
 abbrev pub key_row : List ℕ → PeriodRow → PeriodRow
@@ -29,7 +33,7 @@ abbrev pub Reaches : PeriodRow → PeriodRow → Type 0
 Reaches first second =
     (first.values ≡ second.values) × (second.period.start <ℤ first.period.end)
 
--- the day on which the second row begins, where the first one reaches it
+-- the day on which the second row begins, if the first one reaches it
 abbrev pub IsReachedOn : PeriodRow → PeriodRow → Option ℤ → Type 0
 IsReachedOn first second found =
     MatchOption found (Reaches first second → ⊥)

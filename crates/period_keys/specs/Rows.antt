@@ -5,8 +5,9 @@ use Rattle.std.specs.BTreeMap.{BTreeMap, IsOrdered}
 use Rattle.period_core.specs.Order.{values_cmp}
 use Rattle.period_core.specs.declared.value.Value.{Value}
 use Rattle.period_core.specs.declared.version.VersionRow.{VersionRow}
+use Rattle.period_keys.specs.declared.key_range.KeyRange.{KeyRange}
 use Rattle.period_keys.specs.declared.key_rows.KeyRows.{KeyRows}
-use Rattle.period_keys.specs.Versions.{is_of_key, version_key}
+use Rattle.period_keys.specs.Versions.{has_key_in, is_of_key, version_key}
 
 -- the positions of the key's columns among a row's values, and all rows, in some order
 pub record RowsByKey : Type 0 where
@@ -16,6 +17,10 @@ pub record RowsByKey : Type 0 where
 -- the rows of this key
 abbrev pub rows_of_key : RowsByKey → List Value → List VersionRow
 rows_of_key table key = filter (is_of_key table.positions key) table.rows
+
+-- the rows whose keys are in the range
+abbrev pub rows_within : RowsByKey → KeyRange → List VersionRow
+rows_within table range = filter (has_key_in table.positions range) table.rows
 
 -- the second has the same positions, and these rows, in some order
 pub record HasRows (wanted : List VersionRow) (old new : RowsByKey) : Type 0 where
@@ -29,7 +34,7 @@ abbrev pub rows_of_groups : List (List Value × KeyRows) → List VersionRow
 rows_of_groups [] = []
 rows_of_groups (group ∷ groups) = group.1.rows.items ++ rows_of_groups groups
 
--- the same without the keys
+-- the rows of some lists without the keys
 abbrev pub rows_of_lists : List KeyRows → List VersionRow
 rows_of_lists [] = []
 rows_of_lists (group ∷ groups) = group.rows.items ++ rows_of_lists groups

@@ -26,7 +26,7 @@ pub record HasMoreIndexes (old new : TableRows) : Type 0 where
   pub indexed : (positions : List ℕ)
       → Contains old.indexed positions → Contains new.indexed positions
 
--- these are the rows' keys by all of the table's positions
+-- the rows' keys by all of the table's positions
 pub record AreTouchedKeys (table : TableRows) (rows : List PeriodRow) (keys : TouchedKeys)
     : Type 0 where
   pub by_key : keys.by_key.items ≡ map (key_values table.positions) rows

@@ -113,7 +113,7 @@ impl Block {
         true
     }
 
-    // Where the item is, if it is there.
+    // The place of the item, if it is in the block.
     fn place_of(&self, item: &PlacedPeriod) -> Option<usize>
         ensures { IfSome result (λ place. (place < length self.now.items.items)
             × (slice_index_or self.now.items.items place item.now ≡ item.now)) }
@@ -155,7 +155,7 @@ impl Block {
     }
 }
 
-// A block of these.
+// A block of placed periods.
 fn block_of(alloc: Global, items: &[PlacedPeriod]) -> Result<Block, Memory>
     ensures { IfOk result (λ block. block.items.items ≡ items.now) }
 {

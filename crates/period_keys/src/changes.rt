@@ -48,7 +48,7 @@ pub fn add_rows(
     Ok(())
 }
 
-/// Removes the rows, whose keys these are. It takes no memory: so where several indexes
+/// Removes the rows, whose keys these are. It takes no memory: so if several indexes
 /// follow one change, the rows that were added to some can be taken out again once another was
 /// refused.
 pub fn take_rows(index: &mut KeyedPeriods, keys: &[Key], rows: &[PeriodRow])

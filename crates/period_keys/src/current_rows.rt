@@ -1,18 +1,21 @@
 //! The current version rows of one table, by key.
 
-ghost use Rattle.std.specs.Prelude.{◌≡◌, ◌≤◌, ◌++◌, ◌∷◌, [], IsPermutation, List, OnErr, OnOk};
-ghost use Rattle.std.specs.Prelude.{MatchOption, length, map, option_copied, take};
+ghost use Rattle.std.specs.Prelude.{◌≡◌, ◌≤◌, ◌++◌, ◌∷◌, [], ℕ, IfOk, IsPermutation, List, OnErr};
+ghost use Rattle.std.specs.Prelude.{MatchOption, OnOk, filter, length, map, option_copied, take};
 ghost use Rattle.std.specs.BTreeMap.{get_by};
 ghost use Rattle.period_core.specs.Order.{values_cmp};
 ghost use Rattle.period_core.specs.declared.version.VersionRow.{VersionRow as Version};
 ghost use Rattle.period_keys.specs.Keys.{key_values, values_at};
 ghost use Rattle.period_keys.specs.Index.{SharesDayOfKept, periods_at};
 ghost use Rattle.period_keys.specs.Keys.{IsLeastOf};
-ghost use Rattle.period_keys.specs.Rows.{HasRows, rows_of_key, rows_of_lists};
-ghost use Rattle.period_keys.specs.Versions.{begun, period_of, recorded, version_key};
+ghost use Rattle.period_keys.specs.Rows.{AreGrouped, HasRows, rows_of_groups};
+ghost use Rattle.period_keys.specs.Rows.{rows_of_key, rows_of_lists, rows_within};
+ghost use Rattle.period_keys.specs.Versions.{begun, has_key_in, period_of, recorded};
+ghost use Rattle.period_keys.specs.Versions.{version_key};
 
 use crate::groups::{Groups, add_to, take_from};
 use crate::key::Key;
+use crate::key_range::KeyRange;
 use crate::key_rows::KeyRows;
 use crate::keyed_periods::KeyedPeriods;
 use crate::keys::values_of;
@@ -21,6 +24,7 @@ use std::alloc::Global;
 use std::cmp::Ordering;
 use std::collections::{BTreeMap, btree_map};
 use std::marker::Model;
+use std::ops::Bound;
 
 /// The current version rows of one table, by the values of its key's columns. Contracts see the
 /// positions of these columns among a row's values, and all rows, in some order.
@@ -60,17 +64,7 @@ impl CurrentRows {
         self.positions.as_slice()
     }
 
-    /// The rows of a key.
-    pub fn of_key(&self, key: &Key) -> &[VersionRow]
-        ensures { result.now ≡ rows_of_key self.now key.now }
-    {
-        match group_at(&self.groups, key) {
-            Some(group) => group.as_slice(),
-            None => &[],
-        }
-    }
-
-    /// The same with their periods, if there are any.
+    /// The rows of a key with their periods, if there are any.
     pub(crate) fn group_of_key(&self, key: &Key) -> Option<&KeyRows>
         ensures { MatchOption result (rows_of_key self.now key.now ≡ [])
             (λ group. group.now.rows.items ≡ rows_of_key self.now key.now) }
@@ -103,6 +97,14 @@ impl CurrentRows {
         ensures { rows_of_lists result ≡ self.now.rows }
     {
         self.groups.values()
+    }
+
+    /// The rows of each key in the range, one key after another.
+    pub fn groups_within(&self, alloc: Global, range: &KeyRange) -> Result<Vec<&KeyRows>, Memory>
+        ensures { IfOk result (λ groups. rows_of_lists (map (λ group. group.now) groups.items)
+            ≡ rows_within self.now range.now) }
+    {
+        groups_in(alloc, &self.groups, range)
     }
 
     /// Adds a row. An error changes nothing.
@@ -226,4 +228,27 @@ fn group_at<'a>(groups: &'a Groups, key: &Key) -> Option<&'a KeyRows>
         Some((last, _)) if last.cmp(key) == Ordering::Less => None,
         _ => groups.get(key),
     }
+}
+
+// The groups of the keys in the range. In the order of keys they are next to each other: no key
+// after the first values that is neither in the range nor passed over has one after it that is.
+fn groups_in<'a>(
+    alloc: Global,
+    groups: &'a Groups,
+    range: &KeyRange,
+) -> Result<Vec<&'a KeyRows>, Memory>
+    ensures { IfOk result (λ found. (positions : List ℕ) → AreGrouped positions groups.now
+        → rows_of_lists (map (λ group. group.now) found.items)
+        ≡ filter (has_key_in positions range.now) (rows_of_groups groups.now.entries)) }
+{
+    let first = range.first(alloc)?;
+    let mut found = Vec::new(alloc);
+    for (key, group) in groups.range((Bound::Included(&first), Bound::Unbounded)) {
+        if range.has(key) {
+            found.push(group)?;
+        } else if !range.passes_over(key) {
+            return Ok(found);
+        }
+    }
+    Ok(found)
 }

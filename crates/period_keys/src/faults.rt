@@ -97,7 +97,7 @@ pub fn rows_of(alloc: Global, versions: &[VersionRow]) -> Result<Vec<PeriodRow>,
     Ok(rows)
 }
 
-/// The same of a table's current rows.
+/// The rows of a table's current versions, without their system time.
 pub fn rows_of_current(alloc: Global, current: &CurrentRows) -> Result<Vec<PeriodRow>, Memory>
     ensures { IfOk result (λ rows. rows.items ≡ map row_of current.now.rows) }
 {

@@ -1,5 +1,5 @@
 //! The first day of a period, or of some periods, that no period of two lists holds. It is found
-//! soonest where each list is in the order of the starts, and its periods are apart.
+//! soonest if each list is in the order of the starts, and its periods are apart.
 
 ghost use Rattle.std.specs.Prelude.{◌≡◌, ◌≤ℤ◌, ◌<ℤ◌, ◌++◌, ◌⊎◌, ℤ, IfSome, MatchOption, Some};
 ghost use Rattle.std.specs.List.{Any};
@@ -17,7 +17,7 @@ pub fn first_gap(first: &[Period], second: &[Period], period: &Period) -> Option
 }
 
 /// The first day of one of the children that none of the periods holds. Each period is looked at
-/// once where the children are in the order of their starts: what one child found to be held is not
+/// once if the children are in the order of their starts: what one child found to be held is not
 /// looked at for the next, and no day from the first gap on is looked at.
 pub fn first_gap_of_some(first: &[Period], second: &[Period], children: &[Period]) -> Option<Day>
     ensures { IsLeastOf (λ day. Any (λ child. IsGap (first.now ++ second.now) child day)
@@ -53,7 +53,7 @@ fn day_past(held: &Option<Period>, day: Day) -> Day
     }
 }
 
-// The end, or the day that was found where that is earlier.
+// The end, or the day that was found if that is earlier.
 fn earlier_end(found: &Option<Day>, end: Day) -> Day
     ensures upto { result ≤ℤ end }
     ensures found { IfSome found.now (λ day. result ≤ℤ day) }
@@ -65,7 +65,7 @@ fn earlier_end(found: &Option<Day>, end: Day) -> Day
     }
 }
 
-// The day, where it is before the end, else what was found before.
+// The day, if it is before the end, else what was found before.
 fn found_at(found: Option<Day>, day: Day, end: Day) -> Option<Day>
     ensures day { day <ℤ end → result ≡ Some day }
     ensures before { end ≤ℤ day → result ≡ found }
@@ -110,7 +110,7 @@ fn end_of_holder(first: &[Period], second: &[Period], day: Day) -> Option<Day>
 }
 
 // The end of the last period that starts by the day, if it holds the day and the periods are in the
-// order of their starts. No other is looked at: where they are apart, no other holds the day.
+// order of their starts. No other is looked at: if they are apart, no other holds the day.
 fn end_near(periods: &[Period], day: Day) -> Option<Day>
     ensures { IfSome result
         (λ end. Any (λ period. IsWithin period day × (period.end ≡ end)) periods.now) }

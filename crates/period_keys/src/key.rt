@@ -1,10 +1,14 @@
 //! The values of a key.
 
-ghost use Rattle.std.specs.Prelude.{◌≡◌, ◌∷◌, IfOk, IfSome, drop};
+ghost use Rattle.std.specs.Prelude.{◌≡◌, ◌↔◌, ◌<◌, ◌∷◌, IfOk, IfSome, IsTrue, Some, drop};
+ghost use Rattle.std.specs.Prelude.{length, slice_get, take};
+ghost use Rattle.catalog_core.specs.Conditions.{compared};
 ghost use Rattle.period_core.specs.Order.{values_cmp};
 ghost use Rattle.period_core.specs.declared.value.Value.TheVariants.{Int};
 
+use catalog_core::is_allowed;
 use period_core::{Memory, Value, Values};
+use sql_statements::Comparison;
 use std::alloc::Global;
 use std::cmp::Ordering;
 use std::marker::Model;
@@ -29,7 +33,7 @@ impl Model for Key {
 }
 
 impl Key {
-    /// The key of these values.
+    /// The key with the values given.
     pub fn from_vec(mut values: Vec<Value>) -> Key
         ensures { result ≡ values.items }
     {
@@ -64,18 +68,48 @@ impl Key {
         })
     }
 
-    /// Its values. A key that begins with an integer takes memory for the list.
-    pub fn into_values(self, alloc: Global) -> Result<Values, Memory>
-        ensures { IfOk result (λ values. values ≡ self) }
+    /// Whether the key begins with these values.
+    pub(crate) fn begins_with(&self, leading: &[Value]) -> bool
+        ensures { IsTrue result ↔ (leading.now ≡ take (length leading.now) self.now) }
     {
-        let Key { leading, rest } = self;
-        match leading {
-            None => Ok(rest),
-            Some(number) => values_with(alloc, number, rest.as_slice()),
+        match self.leading {
+            None => is_start(leading, self.rest.as_slice()),
+            Some(number) => match leading {
+                [] => true,
+                [Value::Int(first), others @ ..] => {
+                    *first == number && is_start(others, self.rest.as_slice())
+                }
+                _ => false,
+            },
         }
     }
 
-    // All values of both compared. `cmp` calls it where the integers before them do not decide; it
+    /// Whether the key has a value at a place.
+    pub(crate) fn has_place(&self, place: usize) -> bool
+        ensures { IsTrue result ↔ place < length self.now }
+    {
+        match self.leading {
+            None => place < self.rest.as_slice().len(),
+            Some(_) => place <= self.rest.as_slice().len(),
+        }
+    }
+
+    /// Whether the key has a value at a place that compares so with this one.
+    pub(crate) fn compares(&self, place: usize, comparison: Comparison, value: &Value) -> bool
+        ensures { result ≡ compared comparison (slice_get self.now place) (Some value.now) }
+    {
+        match self.leading {
+            None => compares_at(self.rest.as_slice(), place, comparison, value),
+            Some(number) => {
+                if place == 0 {
+                    return is_allowed(comparison, Value::Int(number).cmp(value));
+                }
+                compares_at(self.rest.as_slice(), place - 1, comparison, value)
+            }
+        }
+    }
+
+    // All values of both compared. `cmp` calls it if the integers before them do not decide; it
     // is not inlined there, which would make a search over the keys of a map slow.
     #[inline(never)]
     fn cmp_whole(&self, other: &Key) -> Ordering
@@ -92,7 +126,17 @@ impl Key {
     }
 }
 
-// The first value, where it is an integer.
+// Whether there is a value at a place that compares so with this one.
+fn compares_at(values: &[Value], place: usize, comparison: Comparison, value: &Value) -> bool
+    ensures { result ≡ compared comparison (slice_get values.now place) (Some value.now) }
+{
+    match values.get(place) {
+        Some(own) => is_allowed(comparison, own.cmp(value)),
+        None => false,
+    }
+}
+
+// The first value, if it is an integer.
 fn leading_of(values: &[Value]) -> Option<i64>
     ensures { IfSome result (λ number. values.now ≡ Int number ∷ drop 1 values.now) }
 {
@@ -102,16 +146,11 @@ fn leading_of(values: &[Value]) -> Option<i64>
     }
 }
 
-// An integer and the values after it.
-fn values_with(alloc: Global, number: i64, rest: &[Value]) -> Result<Values, Memory>
-    ensures { IfOk result (λ values. values ≡ Int number ∷ rest.now) }
+// Whether values begin with these.
+fn is_start(leading: &[Value], values: &[Value]) -> bool
+    ensures { IsTrue result ↔ (leading.now ≡ take (length leading.now) values.now) }
 {
-    let mut values = Vec::new(alloc);
-    values.push(Value::Int(number))?;
-    for value in rest {
-        values.push(value.copy(alloc)?)?;
-    }
-    Ok(Values::from_vec(values))
+    leading.len() <= values.len() && leading.cmp(&values[..leading.len()]) == Ordering::Equal
 }
 
 // An integer and the values after it, compared with other values.

@@ -29,7 +29,7 @@ use std::alloc::Global;
 // Up to this many rows are looked at one by one.
 const FEW: usize = 32;
 
-/// The rows of one key. Where they are many, their periods are kept beside them with their places,
+/// The rows of one key. If they are many, their periods are kept too, with their places,
 /// so that a look at a few days, or one row more or less, costs little however many they are.
 /// They are in a box, so that a key of few rows takes little memory.
 #[derive(Drop)]
@@ -77,7 +77,7 @@ impl KeyRows {
         Ok(())
     }
 
-    /// Takes out one row of these values, period and system time, and says whether it was there.
+    /// Takes out one row with the values, period and system time given. Says whether there was one.
     pub fn take_one(&mut self, values: &Values, period: Period, from: Moment, to: Moment) -> bool
         ensures taken { OnTrue result (IsPermutation self.old.rows.items
             (recorded values.now period from to ∷ self.new.rows.items)) }
@@ -97,7 +97,7 @@ impl KeyRows {
         true
     }
 
-    // The place of the row of these values, this period and this system time, if it is there.
+    // The place of the row with the values, period and system time given, if there is one.
     fn place_of(&self, values: &Values, period: Period, from: Moment, to: Moment) -> Option<usize>
         ensures { MatchOption result
             (Contains self.now.rows.items (recorded values.now period from to) → ⊥)
@@ -128,7 +128,7 @@ impl KeyRows {
         }
     }
 
-    /// The places of the rows that share a day with the period, in ascending order, where that
+    /// The places of the rows that share a day with the period, in ascending order, if that
     /// takes no look at most of the rows.
     pub fn places_near(&self, alloc: Global, period: &Period) -> Result<Option<Vec<usize>>, Memory>
         ensures ascending { IfOk result (λ found. IfSome found (λ places.
@@ -150,7 +150,7 @@ impl KeyRows {
     }
 }
 
-// Puts a row after the others, and the first one with no room for more: most keys have one.
+// Adds a row at the end. The first one gets no spare room, since most keys have one row.
 fn push_row(rows: &mut Vec<VersionRow>, row: VersionRow) -> Result<(), Memory>
     ensures ok { OnOk result (rows.new.items ≡ rows.old.items ++ row ∷ []) }
     ensures err { OnErr result (rows.new.items ≡ rows.old.items) }
@@ -174,7 +174,7 @@ fn placed_at(rows: &[VersionRow], place: usize) -> PlacedPeriod
     }
 }
 
-// The placed periods of rows of which the one at a place came in, after the others. Where there is
+// The placed periods of rows of which the one at a place came in, after the others. If there is
 // no memory for it there are none.
 fn placed_with(
     alloc: Global,
@@ -198,7 +198,7 @@ fn placed_with(
     }
 }
 
-// The placed periods of the rows, where they are many.
+// The placed periods of the rows, if they are many.
 fn placed_if_many(alloc: Global, rows: &[VersionRow]) -> Option<Box<PeriodBlocks>>
     ensures { IfSome result (ArePlacedIn rows.now) }
 {
@@ -244,7 +244,7 @@ fn placed_without(
     }
 }
 
-// Whether at most half of the blocks may have a row of these days.
+// Whether at most half of the blocks may have a row on the days given.
 fn are_few_near(blocks: &[Block], period: &Period) -> bool {
     let mut near = 0;
     for block in blocks {
@@ -255,7 +255,7 @@ fn are_few_near(blocks: &[Block], period: &Period) -> bool {
     near <= blocks.len() / 2
 }
 
-// The place of the row of these values, this period and this system time, if it is there.
+// The place of the row with the values, period and system time given, if there is one.
 fn place_among(
     rows: &[VersionRow],
     values: &Values,

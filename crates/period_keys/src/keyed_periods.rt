@@ -42,7 +42,7 @@ impl KeyedPeriods {
         }
     }
 
-    /// The same, in two lists, each in the order of their starts.
+    /// The periods of a key in two lists, each in the order of their starts.
     pub fn runs_of_key(&self, key: &Key) -> (&[Period], &[Period])
         ensures { result.0.now ++ result.1.now ≡ periods_at self.now key.now }
     {
@@ -52,7 +52,7 @@ impl KeyedPeriods {
         }
     }
 
-    /// Whether such a period is among those of a key.
+    /// Whether a key has such a period.
     pub fn has(&self, key: &Key, period: &Period) -> bool
         ensures { IsTrue result ↔ Contains (periods_at self.now key.now) period.now }
     {
@@ -79,7 +79,7 @@ impl KeyedPeriods {
         Ok(keys)
     }
 
-    /// Adds a period to those of a key. An error changes no periods.
+    /// Adds a period to a key. An error changes no periods.
     pub fn add(&mut self, alloc: Global, key: &Key, period: Period) -> Result<(), Memory>
         ensures ok { OnOk result ((other : List ColumnValue)
             → IsPermutation (periods_at self.new other)
@@ -96,7 +96,7 @@ impl KeyedPeriods {
         periods.add(period)
     }
 
-    /// Takes one such period out of those of a key, and says whether it was there.
+    /// Takes one such period away from a key, and says whether there was one.
     pub fn take_out(&mut self, key: &Key, period: &Period) -> bool
         ensures taken { OnTrue result
             (IsPermutation (periods_at self.old key.now)

@@ -32,7 +32,7 @@ pub fn values_of(alloc: Global, positions: &[usize], values: &[Value]) -> Result
     }
 }
 
-// The value at the first position, where it is an integer, and the positions after that one.
+// The value at the first position, if it is an integer, and the positions after that one.
 fn leading_at<'a>(positions: &'a [usize], values: &[Value]) -> Option<(i64, &'a [usize])>
     ensures { IfSome result (λ found. values_at positions.now values.now
         ≡ Int found.0 ∷ values_at found.1.now values.now) }

@@ -3,13 +3,13 @@
 //!
 //! - Whole lists are judged by a table's definition (`tables`, `sweep`, over each `row_key`).
 //! - A table's current rows are kept by `key` in memory (`current_rows`, of `groups` of
-//!   `key_rows`). Those of one key are found by days, where they are many: their periods are kept
+//!   `key_rows`). Those of one key are found by days, if they are many: their periods are kept
 //!   beside them with their places (`placed_period`) in blocks (`block`, `period_blocks`), and
 //!   `near_rows` looks at the blocks near a period alone.
-//! - Beside them their periods are kept by the columns of references (`period_indexes`,
+//! - Their periods are kept too, by the columns of references (`period_indexes`,
 //!   `keyed_periods`, `ordered_periods`). `TableIndex` has both, and follows a change all or none.
-//! - `plans` makes a change's plan of the rows of the key that its condition fixes
-//!   (`fixed_keys`), or of all, and of many rows of a key of those near its portion.
+//! - `plans` makes a change's plan of the rows of the keys in the range that its condition leaves
+//!   (`fixed_keys`, `key_range`), and of many rows of a key of those near its portion.
 //! - A plan is judged by the rows that it touches (`faults`, by `clashes` and `references`), and by
 //!   all references of the catalog (`reference_faults`).
 //! - `table_list` keeps the rows of all tables with the indexes that references need, and
@@ -28,6 +28,7 @@ mod gaps;
 mod groups;
 mod key;
 mod key_laws;
+mod key_range;
 mod key_rows;
 mod keyed_periods;
 mod keys;
@@ -52,9 +53,10 @@ mod tables;
 pub use changes::keys_of;
 pub use current_rows::CurrentRows;
 pub use faults::{key_fault, rows_of};
-pub use fixed_keys::{Equation, fixed_key, fixed_key_within};
+pub use fixed_keys::{ColumnTest, range_of_key, range_of_key_within};
 pub use key::Key;
 pub use key_laws::{clashes_after_change, clashes_are_of_days, uncovered_are_of_days};
+pub use key_range::KeyRange;
 pub use lawful_laws::{
     changes_break_their_own_references, key_faults_are_clashes, lacking_parents_are_uncovered,
     states_stay_lawful,

@@ -1,4 +1,4 @@
-//! Which rows of a key hold on days of a period, found by blocks of their periods.
+//! The rows of a key that hold on days of a period, found by blocks of their periods.
 
 ghost use Rattle.std.specs.Prelude.{◌≡◌, ◌<◌, ◌↔◌, ℕ, Contains, IfOk, IfSome, IsTrue, OnOk, length};
 ghost use Rattle.std.specs.Prelude.{slice_index_or};
@@ -99,7 +99,7 @@ pub fn first_shared_near(
     found
 }
 
-// The same of one block.
+// The first shared day by the rows of one block.
 fn first_shared_in(
     rows: &[VersionRow],
     block: &Block,
@@ -118,7 +118,7 @@ fn first_shared_in(
     }
 }
 
-// The same of these.
+// The first shared day by the rows of some items of a block.
 fn first_shared_of(
     rows: &[VersionRow],
     items: &[PlacedPeriod],
@@ -136,7 +136,7 @@ fn first_shared_of(
     found
 }
 
-// The same of one row.
+// The first shared day by one row.
 fn first_shared_at(
     rows: &[VersionRow],
     item: &PlacedPeriod,
@@ -147,7 +147,7 @@ fn first_shared_at(
     ensures { IsLeastOf
         (λ day. IsKeptAt rows.now (periods_at gone.now key.now) period.now day item.now) result }
 {
-    // (The row is looked at last: it lies far from the others.)
+    // (The row is looked at last: it lies far from the rest.)
     let Some(day) = first_of_kept(gone, key, period, &item.period) else {
         return None;
     };
@@ -161,7 +161,7 @@ fn is_at(rows: &[VersionRow], item: &PlacedPeriod) -> bool
     item.place < rows.len() && is_same_period(&rows[item.place].period, &item.period)
 }
 
-/// The place of the row of these values, this period and this system time, if the blocks have it.
+/// The place of the row with the values, period and system time given, if the blocks have it.
 pub fn place_near(
     rows: &[VersionRow],
     blocks: &[Block],
@@ -184,7 +184,7 @@ pub fn place_near(
     None
 }
 
-// The same of one block.
+// The place of the row, if the block has it.
 fn place_in(
     rows: &[VersionRow],
     items: &[PlacedPeriod],
@@ -208,7 +208,7 @@ fn place_in(
     None
 }
 
-/// Whether the row is of these values, this period and this system time.
+/// Whether the row has the values, period and system time given.
 pub fn is_recorded(
     row: &VersionRow,
     values: &Values,

@@ -1,5 +1,5 @@
 //! Periods nearly in the order of their starts, so that a period meets its neighbours alone, and
-//! one that comes in moves few others.
+//! one that arrives moves few others.
 
 ghost use Rattle.std.specs.Prelude.{◌≡◌, ◌↔◌, ◌<◌, ◌≤◌, ◌<ℤ◌, ◌≤ℤ◌, ◌+◌, ◌++◌, ◌∷◌, []};
 ghost use Rattle.std.specs.Prelude.{Contains, IfOk, IsPermutation, IsTrue, MatchOption, OnErr};
@@ -12,7 +12,7 @@ ghost use Rattle.period_keys.specs.Ordered.{AreInOrder, FitsAt};
 use period_core::{Day, Memory, Period};
 use std::alloc::Global;
 
-// The most settled periods that one which comes in among them moves.
+// The most settled periods that one which arrives among them moves.
 const MOST_MOVED: usize = 512;
 
 /// Periods in two runs, each in the order of their starts. First come the settled ones, and after
@@ -37,7 +37,7 @@ impl OrderedPeriods {
         }
     }
 
-    /// These periods, sorted.
+    /// The periods, sorted.
     pub fn sorted(alloc: Global, periods: &[Period]) -> Result<OrderedPeriods, Memory>
         ensures { IfOk result (λ sorted. IsPermutation periods.now sorted.items.items) }
     {
@@ -104,7 +104,7 @@ impl OrderedPeriods {
         true
     }
 
-    /// Whether such a period is there.
+    /// Whether such a period exists.
     pub fn has(&self, period: &Period) -> bool
         ensures { IsTrue result ↔ Contains self.now.items.items period.now }
     {
@@ -152,7 +152,7 @@ fn should_merge(late: usize, settled: usize) -> bool {
     late >= MOST_MOVED && late >= settled / late
 }
 
-// How many of the periods start by the day: those of periods in order come first.
+// The number of periods that start by the day: of periods in order they come first.
 fn place_after(periods: &[Period], day: Day) -> usize
     requires { AreInOrder periods.now }
     ensures bound { result ≤ length periods.now }
@@ -181,7 +181,7 @@ fn starts_by(period: &Period, day: Day) -> bool
     period.start <= day
 }
 
-// The place of the period among periods in order, if it is there. Those that start on another day
+// The place of the period among periods in order, if it exists. Those that start on another day
 // are passed over.
 fn place_of(periods: &[Period], period: &Period) -> Option<usize>
     requires { AreInOrder periods.now }

@@ -1,4 +1,4 @@
-//! Where the rows of a key are, by their periods: in blocks, so that the rows of a few days are
+//! The places of the rows of a key, by their periods: in blocks, so that the rows of a few days are
 //! found among many without a look at each.
 
 ghost use Rattle.std.specs.Prelude.{◌≡◌, ◌≤◌, ◌<◌, ◌+◌, ◌⊎◌, IfOk, OnOk, length};
@@ -142,7 +142,7 @@ impl PeriodBlocks {
         false
     }
 
-    // The same in the block at a place.
+    // Puts one for another in the block at a place.
     fn replace_in(&mut self, at: usize, item: &PlacedPeriod, place: usize) -> bool
         ensures others { (other : Placed) → HasPlaced self.old other
             → (other ≡ item.now) ⊎ HasPlaced self.new other }

@@ -83,7 +83,7 @@ pub fn add_to_each(
     Ok(())
 }
 
-/// Removes rows that are there, whose keys these are, from each of the indexes. It takes
+/// Removes rows that exist, whose keys these are, from each of the indexes. It takes
 /// no memory.
 pub fn take_from_each(indexes: &mut [PeriodIndex], keys: &[Items<Key>], rows: &[PeriodRow])
     requires { AreKeysByEach rows.now (map positions_by indexes.old) keys.now }

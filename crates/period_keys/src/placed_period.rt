@@ -1,4 +1,4 @@
-//! Where the row of a period is.
+//! The place of the row of a period.
 
 use period_core::Period;
 

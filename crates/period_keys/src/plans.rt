@@ -1,10 +1,11 @@
 //! The plan of a change over a table's current rows by key.
 
 ghost use Rattle.std.specs.Prelude.{◌≡◌, ◌↔◌, ◌<◌, ◌≤◌, ◌⊎◌, ◌++◌, ◌∷◌, [], ℕ, Contains, IfErr};
-ghost use Rattle.std.specs.Prelude.{IfOk, IfSome, IsTrue, List, OnOk, length, slice_index_or, true};
+ghost use Rattle.std.specs.Prelude.{IfOk, IfSome, IsTrue, List, OnOk, length, map, slice_index_or};
+ghost use Rattle.std.specs.Prelude.{true};
 ghost use Rattle.std.specs.List.Sorted.{IsSorted};
 ghost use Rattle.std.specs.Ordering.{nat_cmp};
-ghost use Rattle.catalog_core.specs.change.Resolution.{has_empty_row};
+ghost use Rattle.catalog_core.specs.change.EmptyRows.{has_empty_row};
 ghost use Rattle.catalog_core.specs.Conditions.{meets};
 ghost use Rattle.history_model.specs.Effects.{inserted_by};
 ghost use Rattle.history_model.specs.Portions.{touches};
@@ -12,20 +13,22 @@ ghost use Rattle.period_core.specs.declared.version.VersionRow.{VersionRow as Ve
 ghost use Rattle.portion_dml.specs.Plans.{Plans, version_row};
 ghost use Rattle.period_keys.specs.Between.{Meets};
 ghost use Rattle.period_keys.specs.Planned.{IsPlanOf};
-ghost use Rattle.period_keys.specs.Rows.{rows_of_key};
+ghost use Rattle.period_keys.specs.Rows.{rows_of_lists};
+ghost use Rattle.period_keys.specs.Versions.{has_key_in};
 
 use crate::current_rows::CurrentRows;
-use crate::fixed_keys::fixed_key;
-use crate::key::Key;
+use crate::fixed_keys::range_of_key;
+use crate::key_range::KeyRange;
 use crate::key_rows::KeyRows;
 use catalog_core::{Action, Cond, Plan};
 use period_core::{Items, Memory, Period, Refusal, VersionRow};
 use portion_dml::{plan_given, plan_portion};
 use std::alloc::Global;
 
-/// The plan of a change over its table's current rows. Where its condition fixes the key, the rows
-/// of that key alone are looked at. The values of the rows that an INSERT gives are those of the
-/// plan. It is refused where such a row has a period without a day, and else only out of memory.
+/// The plan of a change over its table's current rows. The rows of the keys in the range that its
+/// condition leaves are looked at alone (`range_of_key`). The values of the rows that
+/// an INSERT gives are those of the plan. It is refused if such a row has a period without a
+/// day, and else only out of memory.
 pub fn plan_change(alloc: Global, current: &CurrentRows, action: Action) -> Result<Plan, Refusal>
     ensures plan { IfOk result (λ plan. IsPlanOf action current.now.rows plan) }
     ensures refused { IfErr result (λ refusal.
@@ -38,54 +41,45 @@ pub fn plan_change(alloc: Global, current: &CurrentRows, action: Action) -> Resu
     }
 }
 
-// The plan of an action that gives no rows, by the key that its condition fixes, or over all rows.
+// The plan of an action that gives no rows, over the keys that its condition leaves.
 fn plan_by_condition(alloc: Global, current: &CurrentRows, action: &Action) -> Result<Plan, Memory>
     requires { inserted_by action.now ≡ [] }
     ensures { IfOk result (λ plan. IsPlanOf action.now current.now.rows plan) }
 {
-    let Some(condition) = condition_of(action) else {
-        return plan_over_all(alloc, current, action);
-    };
-    match fixed_key(alloc, condition, current.positions())? {
-        Some(key) => plan_of_key(alloc, current, &key, action),
-        None => plan_over_all(alloc, current, action),
+    let range = range_of_action(alloc, action, current.positions())?;
+    plan_over(alloc, current.groups_within(alloc, &range)?, action)
+}
+
+// A range of keys that has the key of each row that an action touches.
+fn range_of_action(alloc: Global, action: &Action, positions: &[usize]) -> Result<KeyRange, Memory>
+    ensures { IfOk result (λ range. (version : Version)
+        → touches action.now (version_row version) ≡ true
+        → has_key_in positions.now range version ≡ true) }
+{
+    match condition_of(action) {
+        Some(condition) => range_of_key(alloc, condition, positions),
+        None => Ok(KeyRange::all(alloc)),
     }
 }
 
-// The same over all rows.
-fn plan_over_all(alloc: Global, current: &CurrentRows, action: &Action) -> Result<Plan, Memory>
+// The plan of an action that gives no rows, over the rows of these groups.
+fn plan_over(alloc: Global, groups: Vec<&KeyRows>, action: &Action) -> Result<Plan, Memory>
     requires { inserted_by action.now ≡ [] }
-    ensures { IfOk result (λ plan. Plans action.now current.now.rows plan) }
+    ensures { IfOk result (λ plan.
+        Plans action.now (rows_of_lists (map (λ group. group.now) groups.entry.items)) plan) }
 {
     let mut plan = Plan {
         ended: Items::empty(alloc),
         added: Items::empty(alloc),
     };
-    for group in current.groups() {
+    for group in groups {
         let own = plan_of_group(alloc, group, action)?;
         append_plan(&mut plan, own)?;
     }
     Ok(plan)
 }
 
-// The same over the rows of a key.
-fn plan_of_key(
-    alloc: Global,
-    current: &CurrentRows,
-    key: &Key,
-    action: &Action,
-) -> Result<Plan, Memory>
-    requires { inserted_by action.now ≡ [] }
-    ensures { IfOk result
-        (λ plan. Plans action.now (rows_of_key current.now key.now) plan) }
-{
-    match current.group_of_key(key) {
-        Some(group) => plan_of_group(alloc, group, action),
-        None => plan_portion(alloc, &[], action),
-    }
-}
-
-// The same over the rows of a key, of which, where they are many, those are looked at that share a
+// The plan over the rows of a key, of which, if they are many, those are looked at that share a
 // day with the portion.
 fn plan_of_group(alloc: Global, group: &KeyRows, action: &Action) -> Result<Plan, Memory>
     requires { inserted_by action.now ≡ [] }
@@ -113,7 +107,7 @@ fn portion_of(action: &Action) -> Option<&Period>
     }
 }
 
-// The same over rows of which those at the places alone are touched.
+// The plan over rows of which those at the places alone are touched.
 fn plan_at(
     alloc: Global,
     rows: &[VersionRow],

@@ -1,4 +1,4 @@
-//! Where the columns of a key or of a reference have their values in a row.
+//! The positions of the columns of a key or of a reference among a row's values.
 
 ghost use Rattle.std.specs.Prelude.{◌≡◌, IfOk};
 ghost use Rattle.period_keys.specs.Positions.{positions_of_places, value_position_of};

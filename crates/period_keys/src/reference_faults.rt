@@ -50,7 +50,7 @@ pub fn reference_fault(
     Ok(found)
 }
 
-// The same of a row of one table.
+// The least such day of a row of one table.
 fn fault_of(
     alloc: Global,
     definitions: &[TableDef],
@@ -85,7 +85,7 @@ fn fault_of(
     Ok(found)
 }
 
-// The same by one of its references.
+// The least such day by one of its references.
 fn fault_by(
     alloc: Global,
     definitions: &[TableDef],
@@ -119,7 +119,7 @@ fn fault_by(
     Ok(None)
 }
 
-// The same by a reference from the changed table.
+// The least such day by a reference from the changed table.
 fn fault_from(
     alloc: Global,
     tables: &[TableIndex],
@@ -145,7 +145,7 @@ fn fault_from(
     Ok(found)
 }
 
-// The same by a reference of another table to the changed one.
+// The least such day by a reference of another table to the changed one.
 fn fault_to(
     alloc: Global,
     tables: &[TableIndex],

@@ -32,7 +32,7 @@ pub fn uncovered_by_children(
     ensures by_touched { IfOk result
         (λ found. IsLeastOf (LacksKeyOf own.now added.now parents.now) found) }
 
-    // What a look at all children would find, where each had a parent before.
+    // A look at all children would find this day, if each had a parent before.
     ensures of_whole { IfOk result (λ found. (keys : List ℕ) (above before ended stay : List Row)
         → IsIndexOf keys above parents.now
         → IsEachCovered own.now before keys above
@@ -59,7 +59,7 @@ fn least_lack(
     least_lack_key_by_key(alloc, own, children, parents)
 }
 
-// The same, each child judged by itself.
+// The least day on which a child has no parent, each child judged by itself.
 fn least_lack_one_by_one(
     alloc: Global,
     own: &[usize],
@@ -78,7 +78,7 @@ fn least_lack_one_by_one(
     Ok(found)
 }
 
-// The same, those of one key judged together.
+// The least day on which a child has no parent; the children of one key are judged together.
 fn least_lack_key_by_key(
     alloc: Global,
     own: &[usize],
@@ -93,7 +93,7 @@ fn least_lack_key_by_key(
     Ok(found)
 }
 
-// The same for an index of the children.
+// The least day on which a child has no parent, by an index of the children.
 fn least_lack_of_keys(
     alloc: Global,
     children: &KeyedPeriods,
@@ -154,7 +154,7 @@ pub fn uncovered_by_parents(
     Ok(found)
 }
 
-// The same for indexes of the ended parents and of the added ones. Each key of an ended one is
+// The least day, by indexes of the ended parents and of the added ones. Each key of an ended one is
 // judged once.
 fn uncovered_by_keys(
     alloc: Global,

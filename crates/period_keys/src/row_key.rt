@@ -8,7 +8,7 @@ use std::cmp::Ordering;
 use std::marker::Model;
 
 /// The key of a row with the row's period, which contracts see as a row of the key's values alone.
-/// Row keys are in the order of their keys, and those of one key in the order of their periods.
+/// Row keys are in the order of their keys, and with one key in the order of their periods.
 #[derive(Drop)]
 pub struct RowKey<'a> {
     key: &'a Key,

@@ -40,7 +40,7 @@ pub fn least_repeat(mut rows: Vec<RowKey>) -> Result<Option<Day>, Memory>
     Ok(first_repeat(rows.as_slice()))
 }
 
-/// The keys, which are those of the rows, with the rows' periods.
+/// The keys of the rows, with the rows' periods.
 pub fn row_keys<'a>(
     alloc: Global,
     keys: &'a [Key],
@@ -72,7 +72,7 @@ fn first_repeat(rows: &[RowKey]) -> Option<Day>
     found
 }
 
-// The day on which the row begins, where the one that ends latest still holds then.
+// The day on which the row begins, if the one that ends latest still holds then.
 fn day_reached(latest: &RowKey, row: &RowKey) -> Option<Day>
     ensures { IsReachedOn latest.now row.now result }
 {

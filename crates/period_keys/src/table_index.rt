@@ -1,4 +1,4 @@
-//! A table's current rows by key, and beside them their periods by the columns of references.
+//! A table's current rows by key, and their periods by the columns of references.
 
 ghost use Rattle.std.specs.Prelude.{◌≡◌, ◌↔◌, ◌++◌, ◌∷◌, [], Contains, IfOk, IfSome, IsSome};
 ghost use Rattle.std.specs.Prelude.{IsPermutation, List, OnErr, OnOk, map};
@@ -52,7 +52,7 @@ pub struct TouchedKeys {
 }
 
 impl TableIndex {
-    /// An index of these rows, by their key alone.
+    /// An index of rows, by their key alone.
     pub fn new(alloc: Global, rows: CurrentRows) -> TableIndex
         ensures positions { result.positions ≡ rows.positions }
         ensures rows { result.rows ≡ rows.rows }
@@ -123,7 +123,7 @@ impl TableIndex {
         self.keys_with(alloc, by_key, rows)
     }
 
-    /// The same, where those by the table's key are given.
+    /// The rows' keys by all of the table's positions, if those by the table's key are given.
     pub fn keys_with(
         &self,
         alloc: Global,
@@ -173,7 +173,7 @@ impl TableIndex {
         take_from_each(self.indexes.as_mut_slice(), keys.by_each.as_slice(), rows);
     }
 
-    /// Removes versions that are there. `rows` are these without system time, and `keys` are those
+    /// Removes versions that exist. `rows` are these without system time, and `keys` are those
     /// of the rows. It takes no memory.
     pub fn take_all(&mut self, keys: &TouchedKeys, versions: &[VersionRow], rows: &[PeriodRow])
         requires keys { AreTouchedKeys self.old rows.now keys.now }

@@ -34,7 +34,7 @@ pub fn tables_of(
 }
 
 /// Adds a table without rows, which the catalog does not have yet, with the indexes that its
-/// references to earlier tables need. On an error no table is added, and those that are there have
+/// references to earlier tables need. On an error no table is added, and those that exist have
 /// the same rows. They may have an index more, which no one asks for.
 pub fn add_table(
     alloc: Global,
@@ -80,7 +80,7 @@ fn index_all(
     Ok(())
 }
 
-// The same for the references of the table at a place.
+// Gives the tables the indexes that the references of the table at a place need.
 fn index_table(
     alloc: Global,
     definitions: &[TableDef],

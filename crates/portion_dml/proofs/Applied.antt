@@ -52,7 +52,7 @@ filter-of_map f p (x ∷ xs) = go (p (f x)) (filter-of_map f p xs)
 nothing_left : {X : Type 0} (ys : List X) → IsPermutation [] ys → ys ≡ []
 nothing_left ys p = from_permutation [] ys p
 
--- where no version is touched, each is left as it was
+-- if no version is touched, each is left as it was
 none_left : (moment : ℤ) (action : Action) (vs : List PlainVersion) → filter (is_touched action) vs ≡ [] → flat_map (remains_of moment action) vs ≡ vs
 none_left moment action [] e = refl
 none_left moment action (v ∷ vs) e = go (is_touched action v) e (none_left moment action vs)
@@ -62,7 +62,7 @@ none_left moment action (v ∷ vs) e = go (is_touched action v) e (none_left mom
     go true e rest = cc
     go false e rest = ap (λ l. v ∷ l) (rest e)
 
--- where each is touched, each is closed
+-- if each version is touched, each is closed
 all_closed : (moment : ℤ) (action : Action) (vs : List VersionRow) → All (λ (v : VersionRow). is_hit action v ≡ true) vs
     → flat_map (remains_of moment action) (map plain_version vs) ≡ flat_map (closed_at moment) (map plain_version vs)
 all_closed moment action [] h = refl
@@ -102,7 +102,7 @@ module _ (moment : ℤ) (action : Action) (old new : List VersionRow) (applied :
       IsPermutation-trans E (filter (is_hit action) old) (E ++ S) (IsPermutation-sym (filter (is_hit action) old) E hit_are_ended) one in
       nothing_left S (IsPermutation-cancel E [] S (subst (λ l. IsPermutation l (E ++ S)) (sym (append-nil E)) two))
 
-  -- what the change makes of the ended versions and of the others
+  -- the versions that the change makes of the ended versions and of the others
   parts_after : versions_after moment action (map plain_version (applied.plan.ended ++ applied.applies.stay))
       ≡ (flat_map (closed_at moment) (map plain_version applied.plan.ended) ++ map plain_version applied.applies.stay) ++ map (begun_at moment) (map plain_row applied.plan.added)
   parts_after =
@@ -122,6 +122,7 @@ module _ (moment : ℤ) (action : Action) (old new : List VersionRow) (applied :
       ap (versions_after moment action) whole
       ∙ ap₂ (λ (a : List PlainVersion) (b : List PlainRow). a ++ map (begun_at moment) b) left (ap (added action) rows ∙ sym applied.plans.added)
 
+  -- a plan, applied, makes of the versions what the change makes of them
   pub applied_makes : AppliesAction moment action old new
   applied_makes =
       let C : List PlainVersion = flat_map (closed_at moment) (map plain_version applied.plan.ended) in

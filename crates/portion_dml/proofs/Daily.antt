@@ -1,4 +1,4 @@
--- What stands after a plan holds on each day what the action makes of that day's rows.
+-- The versions after a plan hold on each day what the action makes of that day's rows.
 use Rattle.std.proofs.Common.{◌≡◌, ℤ, Bool, true, false, not, List, [], ◌∷◌, ◌++◌, map, refl, sym, ◌∙◌, ap, subst, append_assoc}
 use Rattle.std.specs.List.{All, filter, flat_map}
 use Rattle.std.specs.List.Sorted.{IsPermutation}
@@ -23,7 +23,7 @@ use Rattle.temporal_model.proofs.Rearranged.{IsPermutation-cancel}
 abbrev pub touched : Action → VersionRow → Bool
 touched action v = touches action (version_row v)
 
--- what the version shows on the day, and what the action makes of that
+-- the values that the version shows on the day, as the action changes them
 abbrev pub version_shown : ℤ → VersionRow → List (List Value)
 version_shown day v = shown day (version_row v)
 
@@ -53,7 +53,7 @@ staying action before ended stay e p =
     subst (λ l. IsPermutation before (l ++ rest)) (sym e) (IsPermutation-filter_both (touched action) (λ v. not (touched action v)) (λ v. refl) before) in
     IsPermutation-cancel ended stay rest (IsPermutation-trans (ended ++ stay) before (ended ++ rest) (IsPermutation-sym before (ended ++ stay) p) parts)
 
--- what the rows show that a plan adds
+-- the values that the added rows of a plan show
 added_shown : (action : Action) (before : List VersionRow) (plan : Plan) (day : ℤ) → Plans action before plan
     → flat_map (shown day) (map plain_row plan.added) ≡ flat_map (shown day) (map plain_given (inserted_by action)) ++ flat_map (made_of action day) plan.ended
 added_shown action before plan day plans =
@@ -66,10 +66,10 @@ added_shown action before plan day plans =
     (λ v t. touched_shown action (version_row v) day t) plan.ended
     (subst (All (λ v. touched action v ≡ true)) (sym plans.ended) (All-passed (touched action) before)))
 
--- what the versions that stay show, with what the added rows show
-pub stand_shown : (action : Action) (before : List VersionRow) (plan : Plan) (stay : List VersionRow) (day : ℤ) → Plans action before plan → IsPermutation before (plan.ended ++ stay)
+-- the values that the versions that stay show, with those of the added rows
+pub staying_shown : (action : Action) (before : List VersionRow) (plan : Plan) (stay : List VersionRow) (day : ℤ) → Plans action before plan → IsPermutation before (plan.ended ++ stay)
     → IsPermutation (flat_map (version_shown day) stay ++ flat_map (shown day) (map plain_row plan.added)) (rows_after action day (values_on (map row_of before) day))
-stand_shown action before plan stay day plans taken =
+staying_shown action before plan stay day plans taken =
     let G : List (List Value) = flat_map (shown day) (map plain_given (inserted_by action)) in
     let E : List (List Value) = flat_map (made_of action day) plan.ended in
     let S : List (List Value) = flat_map (version_shown day) stay in
@@ -102,7 +102,7 @@ stand_shown action before plan stay day plans taken =
     (IsPermutation-trans ((G ++ E) ++ R) (G ++ (E ++ R)) (W ++ G) (same_order ((G ++ E) ++ R) (G ++ (E ++ R)) three)
     (IsPermutation-trans (G ++ (E ++ R)) ((E ++ R) ++ G) (W ++ G) four five)))))
 
--- what stands after a plan is on each day what the action makes of that day's rows
+-- the versions after a plan hold on each day what the action makes of that day's rows
 pub daily : (action : Action) (before : List VersionRow) (plan : Plan) (standing : List PeriodRow) → Plans action before plan → AreLeftCurrent before plan standing
     → HaveEffect action (map row_of before) standing
 daily action before plan standing plans stands day =
@@ -116,4 +116,4 @@ daily action before plan standing plans stands day =
     (subst (IsPermutation (flat_map (λ (row : PeriodRow). shown day (plain_row row)) standing)) (sym (flat_map-of_map (shown day) plain_row rows))
     (flat_map-permutation (λ (row : PeriodRow). shown day (plain_row row)) standing rows stands.rest)) in
     IsPermutation-trans (values_on standing day) (flat_map (shown day) (map plain_row rows)) (rows_after action day (values_on (map row_of before) day)) shown_rows
-    (subst (λ l. IsPermutation l (rows_after action day (values_on (map row_of before) day))) (sym parts) (stand_shown action before plan stands.stay day plans stands.taken))
+    (subst (λ l. IsPermutation l (rows_after action day (values_on (map row_of before) day))) (sym parts) (staying_shown action before plan stands.stay day plans stands.taken))

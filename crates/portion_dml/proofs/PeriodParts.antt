@@ -47,7 +47,7 @@ from_max day a b h k = grind (arith, ints, h, k)
 max_from : (day a b : ℤ) → int_max a b ≤ℤ day → (a ≤ℤ day) × (b ≤ℤ day)
 max_from day a b h = (grind (arith, ints, h), grind (arith, ints, h))
 
--- what a period has before another
+-- the part of a period before another
 pub part_before : (values : List Value) (p other : Period) (left : Option Period) → ((day : ℤ) → InPart left day ↔ (InPeriod p day × IsBefore day other)) → row_over values left ≡ part values p.start (int_min p.end other.start)
 part_before values p other left days =
     by_days values left p.start (int_min p.end other.start) (λ day. (
@@ -55,7 +55,7 @@ part_before values p other left days =
       λ h. let k = min_below day p.end other.start h.1 in (days day).1 (day_in p day h.0 k.0, before_to other day k.1),
     ))
 
--- what it has after the other
+-- the part of a period after the other
 pub part_after : (values : List Value) (p other : Period) (left : Option Period) → ((day : ℤ) → InPart left day ↔ (InPeriod p day × IsAfter day other)) → row_over values left ≡ part values (int_max p.start other.end) p.end
 part_after values p other left days =
     by_days values left (int_max p.start other.end) p.end (λ day. (
@@ -63,7 +63,7 @@ part_after values p other left days =
       λ h. let k = max_from day p.start other.end h.0 in (days day).1 (day_in p day k.0 h.1, after_to other day k.1),
     ))
 
--- what the two share
+-- the part that two periods share
 pub part_within : (values : List Value) (p other : Period) (left : Option Period) → ((day : ℤ) → InPart left day ↔ (InPeriod p day × InPeriod other day)) → row_over values left ≡ part values (int_max p.start other.start) (int_min p.end other.end)
 part_within values p other left days =
     by_days values left (int_max p.start other.start) (int_min p.end other.end) (λ day. (

@@ -1,4 +1,4 @@
--- Plans in plain cases.
+-- Plans in plain cases: nothing touched, a whole period touched, leftovers with their values.
 use Rattle.std.proofs.Common.{◌≡◌, ◌++◌, ℤ, Bool, true, false, cond, List, [], ◌∷◌, Some, None, map, refl, sym, ◌∙◌, ap, ap₂, inl, inr, arith}
 use Rattle.std.specs.Prelude.{int_lt}
 use Rattle.std.specs.Int.{int_max, int_min}

@@ -1,4 +1,4 @@
--- The plan of an INSERT.
+-- The plan of an INSERT ends nothing and adds the given rows.
 use Rattle.std.proofs.Common.{◌≡◌, ◌||◌, Bool, true, false, List, [], ◌∷◌, ◌++◌, map, refl, sym, ◌∙◌, ap, append-nil}
 use Rattle.std.specs.List.{filter, flat_map, list_any}
 use Rattle.period_core.specs.declared.version.VersionRow.{VersionRow}
@@ -10,7 +10,7 @@ use Rattle.catalog_core.specs.declared.change.Action.TheVariants.{Delete, Insert
 use Rattle.catalog_core.specs.declared.change.InsertedRow.{InsertedRow}
 use Rattle.portion_dml.proofs.Daily.{touched}
 use Rattle.period_core.specs.declared.row.PeriodRow.{PeriodRow}
-use Rattle.catalog_core.specs.change.Resolution.{has_empty_row, is_empty_row}
+use Rattle.catalog_core.specs.change.EmptyRows.{has_empty_row, is_empty_row}
 use Rattle.std.proofs.lemmas.List.Folds.{list_any-append}
 
 -- INSERT touches no version

@@ -62,7 +62,7 @@ InsidesAreWhole =
       end = row.end;
     } ∷ []
 
--- what is left of a row outside the portion keeps its values
+-- the leftovers of a row outside the portion keep its values
 abbrev pub LeftoversKeepValues : Type 0
 LeftoversKeepValues =
     (portion : Option Period) (row left : PlainRow) → Contains (leftovers portion row) left

@@ -13,19 +13,19 @@ use Rattle.history_model.specs.Versions.{plain_version, row_of}
 
 -- ---- the forms of changes
 
--- it is an INSERT
+-- the action of an INSERT
 abbrev pub IsInsert : Action → Type 0
 IsInsert (Insert given) = Unit {0}
 IsInsert (Update portion assignments condition) = ⊥
 IsInsert (Delete portion condition) = ⊥
 
--- it is an UPDATE
+-- the action of an UPDATE
 abbrev pub IsUpdate : Action → Type 0
 IsUpdate (Insert given) = ⊥
 IsUpdate (Update portion assignments condition) = Unit {0}
 IsUpdate (Delete portion condition) = ⊥
 
--- it is a DELETE
+-- the action of a DELETE
 abbrev pub IsDelete : Action → Type 0
 IsDelete (Insert given) = ⊥
 IsDelete (Update portion assignments condition) = ⊥
@@ -49,7 +49,7 @@ pub record EndsRows (current : List VersionRow) (plan : Plan) : Type 0 where
   pub stay : List VersionRow
   pub taken : IsPermutation current (plan.ended ++ stay)
 
--- they are those of the versions that the plan does not end, and those that it adds
+-- the current rows after a plan: those of the versions that it does not end, and those that it adds
 pub record AreLeftCurrent (current : List VersionRow) (plan : Plan) (rows : List PeriodRow)
     : Type 0 where
   pub stay : List VersionRow
@@ -64,7 +64,7 @@ HaveEffect action before after =
 -- ---- the versions after a plan
 
 -- the plan is applied at a moment: the versions that it ends are taken out, each once, and closed;
--- the others stay, and the added rows begin
+-- the rest stay, and the added rows begin
 pub record Applies (moment : ℤ) (plan : Plan) (old new : List VersionRow) : Type 0 where
   pub stay : List VersionRow
   pub taken : IsPermutation old (plan.ended ++ stay)

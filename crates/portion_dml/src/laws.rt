@@ -24,7 +24,7 @@ pub fn insides_are_whole()
     ensures { InsidesAreWhole }
 {}
 
-/// What is left of a row outside the portion keeps its values.
+/// The leftovers of a row outside the portion keep its values.
 pub fn leftovers_keep_values()
     ensures { LeftoversKeepValues }
 {}

@@ -1,4 +1,4 @@
-//! Which versions a change touches, and the rows that begin in the place of one.
+//! The versions that a change touches, and the rows that begin in the place of one.
 
 ghost use Rattle.std.specs.Prelude.{◌≡◌, ◌++◌, IfOk, OnOk, map};
 ghost use Rattle.catalog_core.specs.Conditions.{meets_any};
@@ -44,7 +44,7 @@ fn is_met_by(condition: &Option<Cond>, row: &VersionRow) -> bool
     }
 }
 
-/// Adds a row of these values over a period, where there is one.
+/// Adds a row with the values over a period, if there is one.
 fn push_part(
     alloc: Global,
     rows: &mut Vec<PeriodRow>,
@@ -83,7 +83,7 @@ fn push_leftovers(
     push_part(alloc, rows, &row.values, after)
 }
 
-/// Adds a row of these values on the version's days in the portion.
+/// Adds a row with the values on the version's days in the portion.
 fn push_within(
     alloc: Global,
     rows: &mut Vec<PeriodRow>,

@@ -1,7 +1,7 @@
 //! The plans of changes.
 
 ghost use Rattle.std.specs.Prelude.{◌≡◌, ◌⊎◌, [], IfErr, IfOk, IsTrue, List};
-ghost use Rattle.catalog_core.specs.change.Resolution.{has_empty_row, is_empty_row};
+ghost use Rattle.catalog_core.specs.change.EmptyRows.{has_empty_row, is_empty_row};
 ghost use Rattle.catalog_core.specs.declared.change.Action.TheVariants.{Insert};
 ghost use Rattle.history_model.specs.Effects.{inserted_by};
 ghost use Rattle.history_model.specs.Portions.{plain_given, plain_row};
@@ -66,7 +66,7 @@ fn added_row(given: InsertedRow) -> Result<PeriodRow, Refusal>
 }
 
 /// The plan of an INSERT that gives these rows, whose values it takes. It ends no version. It is
-/// refused where a row has a period without a day, and else only out of memory.
+/// refused if a row has a period without a day, and else only out of memory.
 pub fn plan_given(alloc: Global, given: Items<InsertedRow>) -> Result<Plan, Refusal>
     ensures plan { IfOk result (λ plan. (current : List Version)
         → Plans (Insert given) current plan) }
@@ -110,7 +110,7 @@ fn copied_rows(alloc: Global, rows: &[InsertedRow]) -> Result<Vec<InsertedRow>, 
     Ok(copies)
 }
 
-/// The plan of an INSERT, which ends none of its table's current versions. It is refused where a
+/// The plan of an INSERT, which ends none of its table's current versions. It is refused if a
 /// row that it gives has a period without a day, and else only out of memory.
 pub fn plan_insert(alloc: Global, current: &[VersionRow], change: &Change) -> Result<Plan, Refusal>
     requires { IsInsert change.now.action }

@@ -71,7 +71,7 @@ fn period_row(alloc: Global, version: &VersionRow) -> Result<PeriodRow, Memory>
 }
 
 /// The rows that would be current after a plan. The plan ends rows of the list, each once, in any
-/// order; it is quickest where it ends them in the order of the list, as each plan of this crate
+/// order; it is quickest if it ends them in the order of the list, as each plan of this crate
 /// does.
 pub fn after(alloc: Global, current: &[VersionRow], plan: &Plan) -> Result<Vec<PeriodRow>, Memory>
     requires { EndsRows current.now plan.now }

@@ -19,14 +19,14 @@ use Rattle.sql_statements.specs.Trees.{Delete, Statement, Update}
 use Rattle.sql_statements.specs.Trees as statement
 use Rattle.sql_statements.specs.declared.statement.Assignment as written
 use Rattle.sql_statements.specs.declared.statement.InsertRows.{InsertRows}
-use Rattle.catalog_core.proofs.lemmas.change.GivenValues.{all_at}
-use Rattle.catalog_core.proofs.lemmas.change.RowFacts.{table_named}
-use Rattle.catalog_core.specs.Flaws.{has_test, is_flawed_compare, is_flawed_portion, is_flawed_set}
+use Rattle.statement_resolution.proofs.lemmas.change.GivenValues.{all_at}
+use Rattle.catalog_core.proofs.lemmas.table.Named.{table_named}
+use Rattle.statement_resolution.specs.Flaws.{Flaw, OtherKind, TooLong, has_test, is_flawed_compare, is_flawed_portion, is_flawed_set}
 use Rattle.catalog_core.specs.RefusalConditions.{Holds}
-use Rattle.catalog_core.specs.Positions.{resolved_assignment}
-use Rattle.catalog_core.specs.change.Insertion.{gives_faulty_value, has_faulty_value}
-use Rattle.catalog_core.specs.change.PortionChanges.{DeletesAs, UpdatesAs, is_flawed_update}
-use Rattle.catalog_core.specs.change.Resolution.{ResolvesAction, ResolvesChange, RowParts, change_conditions, row_parts, written_row}
+use Rattle.statement_resolution.specs.Positions.{resolved_assignment}
+use Rattle.statement_resolution.specs.change.Insertion.{gives_faulty_value, has_faulty_value}
+use Rattle.statement_resolution.specs.change.PortionChanges.{DeletesAs, UpdatesAs, is_flawed_update}
+use Rattle.statement_resolution.specs.change.Resolution.{ResolvesAction, ResolvesChange, RowParts, change_conditions, row_parts, written_row}
 use Rattle.catalog_core.specs.table.Naming.{Name, passes}
 use Rattle.catalog_core.specs.table.TableWords.{has_distinct_names, table_of, table_of_name, value_columns}
 use Rattle.catalog_core.specs.declared.change.Action.{Action}
@@ -35,9 +35,7 @@ use Rattle.catalog_core.specs.declared.change.Assignment.{Assignment}
 use Rattle.catalog_core.specs.declared.change.Change.{Change}
 use Rattle.catalog_core.specs.declared.change.InsertedRow.{InsertedRow}
 use Rattle.catalog_core.specs.declared.change.Plan.{Plan}
-use Rattle.catalog_core.specs.declared.change.insert_values.ValueFault.TheVariants as fault
-use Rattle.catalog_core.specs.declared.flaw.Flaw.{Flaw}
-use Rattle.catalog_core.specs.declared.flaw.Flaw.TheVariants.{OtherKind, TooLong}
+use Rattle.statement_resolution.specs.declared.change.insert_values.ValueFault.TheVariants as fault
 use Rattle.catalog_core.specs.declared.table.TableDef.{TableDef}
 use Rattle.history_model.specs.Effects.{with_set}
 use Rattle.history_model.specs.Portions.{PlainRow, added, leftovers, part, plain_given, plain_row, replacements, touches, within}
@@ -147,7 +145,7 @@ module _ (tables : List TableDef) (distinct : list_all has_distinct_names tables
   its_names : (d : TableDef) → table_of tables change.table ≡ Some d → has_distinct_names d ≡ true
   its_names d there = all_at has_distinct_names tables change.table d distinct there
 
-  -- what a change adds in the place of rows of its table
+  -- the rows that a change adds in the place of rows of its table
   adds : (s : Statement) → NoneApplies (Holds (change_conditions tables s)) → ResolvesChange tables s change → (d : TableDef) → table_of tables change.table ≡ Some d → (touched : List PlainRow) → AllByRecursion (IsOf d) touched →
       AllByRecursion (IsOf d) (added change.action touched)
   adds (statement.insert i) sound resolved d there touched are =

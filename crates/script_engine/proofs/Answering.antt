@@ -1,9 +1,8 @@
 -- An answer over the rows that a query's references see is one in the history.
-use Rattle.std.proofs.Common.{◌≡◌, ◌↔◌, ◌&&◌, ◌==◌, ◌+◌, ◌++◌, ◌∷◌, ◌∙◌, ℕ, ℤ, true, List, [], append_assoc, eqb-true, length, map, refl, sym, ap, subst, inl, inr, arith, length-append}
+use Rattle.std.proofs.Common.{◌≡◌, ◌↔◌, ◌==◌, ◌+◌, ◌++◌, ◌∷◌, ◌∙◌, ℕ, ℤ, true, List, [], append_assoc, eqb-true, length, map, refl, sym, ap, subst, inl, inr, arith, length-append}
 use Rattle.std.specs.Prelude.{slice_index_or}
 use Rattle.std.specs.List.{Contains}
 use Rattle.std.proofs.lemmas.Bool.{and_parts}
-use Rattle.std.specs.List.{list_all}
 use Rattle.period_core.specs.declared.answer.Answer.{Answer}
 use Rattle.period_core.specs.declared.answer.Witness.{Witness}
 use Rattle.period_core.specs.declared.row.PeriodRow.{PeriodRow}
@@ -14,11 +13,9 @@ use Rattle.temporal_model.specs.Witness.{IsWitness, WitnessEachRow, witness_of}
 use Rattle.temporal_model.proofs.Members.{Contains-cons_cases, Contains-nil}
 use Rattle.temporal_model.proofs.Witnesses.{witnessed_by_sets}
 use Rattle.catalog_core.specs.declared.query.resolved.QueryReference.{QueryReference}
-use Rattle.catalog_core.specs.query.Fitting.{are_in_place, fits, sees_its_kinds}
+use Rattle.catalog_core.specs.query.Fitting.{are_in_place}
 use Rattle.catalog_core.specs.query.Queries.{Query, references_of, rows_for}
 use Rattle.history_model.specs.Histories.{History}
-use Rattle.history_model.specs.OrdinaryQuery.{VisibleInHistory, InAnswerOn, InAnswerOver, VisibleInTables}
-use Rattle.history_model.proofs.Visible.{SeeAlike, query_seen}
 use Rattle.sequenced_ops.specs.Operations.{SnapshotsAre}
 use Rattle.script_engine.specs.Headline.{IsSequencedAnswer}
 use Rattle.script_engine.specs.engine.Answering.{EachSees, SeesRows}
@@ -26,7 +23,7 @@ use Rattle.script_engine.specs.engine.Audits.{HaveSeenRows}
 
 -- ---- lists
 
--- the same facts of two lists and of two others, place by place, are facts of both together
+-- facts of two lists and of two others, place by place, are facts of both together
 pub each_append : (history : History) (before references : List QueryReference) (lists others : List (List PeriodRow)) → EachSees history before lists → EachSees history references others → EachSees history (before ++ references) (lists ++ others)
 each_append history [] references [] others each more = more
 each_append history [] references (rows ∷ lists) others each more = absurd each
@@ -37,12 +34,12 @@ pub each_more : (history : History) (before : List QueryReference) (lists : List
     EachSees history (before ++ reference ∷ []) (lists ++ rows ∷ [])
 each_more history before lists reference rows each sees = each_append history before (reference ∷ []) lists (rows ∷ []) each (sees, tt)
 
--- the first list behind others stands in the place of their number
+-- the first list after others is in the place of their number
 pub at_length : (before : List (List PeriodRow)) (rows : List PeriodRow) (lists : List (List PeriodRow)) → slice_index_or (before ++ rows ∷ lists) (length before) [] ≡ rows
 at_length [] rows lists = refl
 at_length (first ∷ before) rows lists = at_length before rows lists
 
--- where the places count up, a reference's list is in its place
+-- a reference's list is in its place, if the places count up
 pub in_its_place : (history : History) (references : List QueryReference) (before lists : List (List PeriodRow)) → are_in_place (length before) references ≡ true → EachSees history references lists →
     (reference : QueryReference) → Contains references reference → SeesRows history reference (rows_for (before ++ lists) reference)
 in_its_place history [] before lists placed each reference among = absurd (Contains-nil reference among)
@@ -60,17 +57,9 @@ in_its_place history (first ∷ references) before (rows ∷ lists) placed each 
           (in_its_place history references (before ++ rows ∷ []) lists later each.1 reference more)
     ]
 
--- where the lists fit the query, each of its references has the list of the rows that it sees
-pub have_seen : (history : History) (query : Query) (tables : List (List PeriodRow)) → fits query tables ≡ true → EachSees history (references_of query) tables → HaveSeenRows history query tables
-have_seen history query tables fit each reference among =
-    let (counted, kinds) = and_parts (are_in_place 0 (references_of query) && (length tables == length (references_of query))) (list_all (sees_its_kinds tables) (references_of query)) fit in
-    let (placed, long) = and_parts (are_in_place 0 (references_of query)) (length tables == length (references_of query)) counted in
-    in_its_place history (references_of query) [] tables placed each reference among
-
--- the references see over the lists what they see in the history
-pub sees_alike : (history : History) (query : Query) (tables : List (List PeriodRow)) → HaveSeenRows history query tables → (day : ℤ) →
-    SeeAlike (VisibleInTables tables day) (VisibleInHistory history day) (references_of query)
-sees_alike history query tables seen day reference among values = (seen reference among).daily day values
+-- so each reference of a query in whose text they count up has the list of the rows that it sees
+pub have_seen : (history : History) (query : Query) (tables : List (List PeriodRow)) → are_in_place 0 (references_of query) ≡ true → EachSees history (references_of query) tables → HaveSeenRows history query tables
+have_seen history query tables placed each = in_its_place history (references_of query) [] tables placed each
 
 -- ---- answers
 
@@ -108,9 +97,3 @@ module _ (Sets Others : ℤ → List Value → Type 0) (same : (day : ℤ) (valu
     ordered = right.ordered;
     witnessed = each_along answer.rows answer.witnesses right.witnessed;
   }
-
-pub answer_in_history : (history : History) (query : Query) (tables : List (List PeriodRow)) (answer : Answer) → HaveSeenRows history query tables → IsSequencedAnswer (InAnswerOver query tables) answer →
-    IsSequencedAnswer (InAnswerOn history query) answer
-answer_in_history history query tables answer seen right =
-    answer_along (InAnswerOver query tables) (InAnswerOn history query)
-    (λ day values. query_seen (VisibleInTables tables day) (VisibleInHistory history day) query (sees_alike history query tables seen day) values) answer right

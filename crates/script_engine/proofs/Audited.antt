@@ -13,7 +13,7 @@ use Rattle.sql_statements.specs.declared.statement.StatementForm as forms
 use Rattle.sql_statements.specs.declared.statement.StatementForm.TheVariants as variant
 use Rattle.sql_statements.specs.declared.tree.QueryTree as queries
 use Rattle.catalog_core.specs.query.Queries.{Query}
-use Rattle.catalog_core.specs.query.Resolving.{IsSequenced, ResolvesQuery}
+use Rattle.statement_resolution.specs.query.Resolving.{IsSequenced, ResolvesQuery}
 use Rattle.history_model.specs.Histories.{History, catalog_of}
 use Rattle.history_model.specs.OrdinaryQuery.{InAnswerOn}
 use Rattle.snapshot_audit.specs.declared.verdict.Verdict.{Verdict}
@@ -27,8 +27,8 @@ use Rattle.statement_reports.specs.declared.outcome.Outcome.TheVariants.{Done, V
 use Rattle.statement_reports.specs.declared.outcome.Outcome.TheVariants.{Answer as Answered}
 use Rattle.script_engine.proofs.AuditLaws.{audits_agree}
 
--- what an audit gives of a sequenced answer over what the query's references see
-audit_is : (history : History) (query : Query) (answer : Answer) (tables : List (List PeriodRow)) (audit : Result Verdict Refusal) → IsSequencedAnswer (InAnswerOn history query) answer → HaveSeenRows history query tables →
+-- an audit of a sequenced answer, over what the query's references see, agrees or is out of memory
+pub audit_is : (history : History) (query : Query) (answer : Answer) (tables : List (List PeriodRow)) (audit : Result Verdict Refusal) → IsSequencedAnswer (InAnswerOn history query) answer → HaveSeenRows history query tables →
     IfOk audit (IsVerdictOver query tables answer) → IfErr audit (λ refusal. refusal ≡ Memory) → IsAuditOf history query answer audit
 audit_is history query answer tables (Ok verdict) right seen over memory = record {
   tables = tables;
@@ -68,7 +68,6 @@ module _ {S : Type 0} (g : Ghosts S) (history : History) (s : Statement) (engine
   pub other_entry : (result : Result Outcome Refusal) → (IsSequenced s → ⊥) → StepsTo g history s result engine → AuditedStepsTo g history s (record { result = result; audit = None }) engine
   other_entry result other (new, step, kept) = (new, record { step = step; audit = no_answer history s result new other step }, kept)
 
-  pub answer_entry : (query : Query) (answer : Answer) (tables : List (List PeriodRow)) (audit : Result Verdict Refusal) → ResolvesQuery (catalog_of history) s query → IsSequencedAnswer (InAnswerOn history query) answer → HaveSeenRows history query tables →
-      IfOk audit (IsVerdictOver query tables answer) → IfErr audit (λ refusal. refusal ≡ Memory) → StepsTo g history s (Ok (Answered answer)) engine → AuditedStepsTo g history s (record { result = Ok (Answered answer); audit = Some audit }) engine
-  answer_entry query answer tables audit resolved right seen over memory (new, step, kept) =
-      (new, record { step = step; audit = (query, resolved, audit_is history query answer tables audit right seen over memory) }, kept)
+  pub answer_entry : (query : Query) (answer : Answer) (audit : Result Verdict Refusal) → ResolvesQuery (catalog_of history) s query → IsAuditOf history query answer audit → StepsTo g history s (Ok (Answered answer)) engine →
+      AuditedStepsTo g history s (record { result = Ok (Answered answer); audit = Some audit }) engine
+  answer_entry query answer audit resolved is (new, step, kept) = (new, record { step = step; audit = (query, resolved, is) }, kept)

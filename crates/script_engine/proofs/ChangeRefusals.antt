@@ -1,4 +1,4 @@
--- What a change may be refused with over a catalog, as it is resolved and planned.
+-- The refusals that a change may get over a catalog, as it is resolved and planned.
 use Rattle.std.proofs.Common.{◌≡◌, ◌∷◌, ◌++◌, ◌<◌, ◌⊎◌, ◌∙◌, ℤ, Bool, false, true, List, [], refl, sym, subst, inl, inr, arith}
 use Rattle.std.proofs.lemmas.Bool.{false≢true}
 use Rattle.period_core.specs.Codes.{code_of}
@@ -9,7 +9,8 @@ use Rattle.period_core.specs.declared.version.VersionRow.{VersionRow}
 use Rattle.sql_statements.specs.Trees.{Statement}
 use Rattle.sql_statements.specs.Trees as statement
 use Rattle.catalog_core.specs.RefusalConditions.{Holds, RefusalCondition}
-use Rattle.catalog_core.specs.change.Resolution.{IsChange, change_conditions, empty_period, has_empty_row}
+use Rattle.statement_resolution.specs.change.Resolution.{IsChange, change_conditions, empty_period}
+use Rattle.catalog_core.specs.change.EmptyRows.{has_empty_row}
 use Rattle.catalog_core.specs.declared.change.Action.{Action}
 use Rattle.catalog_core.specs.declared.change.Plan.{Plan}
 use Rattle.catalog_core.specs.declared.table.TableDef.{TableDef}
@@ -19,7 +20,7 @@ use Rattle.script_engine.specs.engine.Runs.{AppliesOver, ChangeApplies, IsConstr
 use Rattle.script_engine.proofs.Refused.{are_at_most, days-planned, holds_cases, may_answer-before, may_answer-empty}
 
 -- the numbers of a change's conditions are at most that of an empty period
-change_numbers : (tables : List TableDef) (s : Statement) → are_at_most 41 (change_conditions tables s) ≡ true
+pub change_numbers : (tables : List TableDef) (s : Statement) → are_at_most 41 (change_conditions tables s) ≡ true
 change_numbers tables (statement.insert i) = refl
 change_numbers tables (statement.update u) = refl
 change_numbers tables (statement.delete d) = refl
@@ -33,14 +34,14 @@ empty_form : (tables : List TableDef) (s : Statement) → empty_period tables s 
 empty_form tables (statement.insert i) = refl
 empty_form tables _ = refl
 
--- the same conditions, with that form
+-- the conditions of a change, with that of an empty period
 abbrev Applies : List TableDef → Statement → Refusal → Type 0
 Applies tables s = Holds (change_conditions tables s ++ (EmptyPeriod, gives_empty tables s) ∷ [])
 
 formed : (P : (Refusal → Type 0) → Type 0) (tables : List TableDef) (s : Statement) → P (Applies tables s) → P (ChangeApplies tables s)
 formed P tables s p = subst (λ (j : RefusalCondition). P (Holds (change_conditions tables s ++ j ∷ []))) (sym (empty_form tables s)) p
 
--- where no other condition holds, one that does is that of an empty period
+-- if no other condition holds, one that does is that of an empty period
 only_empty : (tables : List TableDef) (s : Statement) → NoneApplies (Holds (change_conditions tables s)) → (refusal : Refusal) → Applies tables s refusal → (EmptyPeriod ≡ refusal) × (gives_empty tables s ≡ true)
 only_empty tables s sound refusal h =
     elim (holds_cases (change_conditions tables s) ((EmptyPeriod, gives_empty tables s) ∷ []) refusal h) [
@@ -48,7 +49,7 @@ only_empty tables s sound refusal h =
       | inr k ↦ elim k [ inl both ↦ both | inr nothing ↦ absurd nothing ]
     ]
 
--- what may be refused, and what none applies of, is the same of each form of change
+-- a refusal, and that none applies, in one way for each form of change
 each_form : (P : (Refusal → Type 0) → Type 0) (tables : List TableDef) (clock : ℤ) (s : Statement) → IsChange s → P (ChangeApplies tables s) → P (AppliesOver tables clock s)
 each_form P tables clock (statement.insert i) is p = p
 each_form P tables clock (statement.update u) is p = p
@@ -59,17 +60,26 @@ module _ (tables : List TableDef) (clock : ℤ) (s : Statement) (is : IsChange s
   over : (P : (Refusal → Type 0) → Type 0) → P (Applies tables s) → P (AppliesOver tables clock s)
   over P p = each_form P tables clock s is (formed P tables s p)
 
-  -- it is not resolved
+  -- a change that is not resolved
+  pub unresolved_answer : (refusal : Refusal) → MayAnswer (Holds (change_conditions tables s)) refusal → MayAnswer (AppliesOver tables clock s) refusal
+  unresolved_answer refusal may =
+      over (λ A. MayAnswer A refusal) (may_answer-before (change_conditions tables s) (gives_empty tables s) refusal (change_numbers tables s) may)
+
   pub unresolved : (refusal : Refusal) → MayAnswer (Holds (change_conditions tables s)) refusal → MayRefuse (AppliesOver tables clock s) refusal
-  unresolved refusal may =
-      over (λ A. MayRefuse A refusal) (inl (may_answer-before (change_conditions tables s) (gives_empty tables s) refusal (change_numbers tables s) may))
+  unresolved refusal may = inl (unresolved_answer refusal may)
 
   module _ (action : Action) (sound : NoneApplies (Holds (change_conditions tables s))) (empty : gives_empty tables s ≡ has_empty_row action) where
     -- an empty period has a number above 40
     before_store : NoneBeforeStore (Applies tables s)
     before_store refusal h = let same = (only_empty tables s sound refusal h).0 in subst (λ (r : Refusal). 40 < code_of r) same (omega arith)
 
-    -- there is no plan, where a given row has no day or memory fails
+    -- a given row has no day
+    pub empty_answer : (refusal : Refusal) → refusal ≡ EmptyPeriod → has_empty_row action ≡ true → MayAnswer (AppliesOver tables clock s) refusal
+    empty_answer refusal is none =
+        over (λ A. MayAnswer A refusal) (subst (λ (r : Refusal). MayAnswer (Applies tables s) r) (sym is)
+        (may_answer-empty (change_conditions tables s) (gives_empty tables s) sound (empty ∙ none)))
+
+    -- there is no plan, if a given row has no day or memory fails
     pub unplanned : (refusal : Refusal) → ((refusal ≡ EmptyPeriod) × (has_empty_row action ≡ true)) ⊎ IsStoreRefusal refusal → MayRefuse (AppliesOver tables clock s) refusal
     unplanned refusal why = over (λ A. MayRefuse A refusal) (may why)
       where
@@ -80,7 +90,7 @@ module _ (tables : List TableDef) (clock : ℤ) (s : Statement) (is : IsChange s
         may (inr (inl memory)) = inl (inr memory)
         may (inr (inr store)) = inr (store, before_store)
 
-    -- where no given row is empty, no condition of 1 to 41 holds
+    -- if no given row is empty, no condition of 1 to 41 holds
     pub none_without_empty : (has_empty_row action ≡ true → ⊥) → NoneApplies (AppliesOver tables clock s)
     none_without_empty days = over NoneApplies (λ refusal h. days (sym empty ∙ (only_empty tables s sound refusal h).1))
 

@@ -13,7 +13,8 @@ use Rattle.sqlite.specs.Store.{Ghosts}
 use Rattle.sql_statements.specs.Trees.{Statement}
 use Rattle.sql_statements.specs.Trees as statement
 use Rattle.catalog_core.specs.RefusalConditions.{Holds}
-use Rattle.catalog_core.specs.change.Resolution.{IsChange, ResolvesChange, change_conditions, has_empty_row}
+use Rattle.statement_resolution.specs.change.Resolution.{IsChange, ResolvesChange, change_conditions}
+use Rattle.catalog_core.specs.change.EmptyRows.{has_empty_row}
 use Rattle.catalog_core.specs.table.TableWords.{has_distinct_names, table_of}
 use Rattle.catalog_core.specs.declared.change.Change.{Change}
 use Rattle.catalog_core.specs.declared.change.Plan.{Plan}
@@ -53,7 +54,7 @@ use Rattle.script_engine.proofs.Steps.{failed_step, refused_step, tables_of}
 
 -- ---- the forms of changes
 
--- what follows is the same of each form
+-- the history that follows, in one way for each form
 accepts_change : (history new : History) (s : Statement) (outcome : Outcome) → IsChange s → Changes history s outcome new → Accepts history s outcome new
 accepts_change history new (statement.insert i) outcome is changes = changes
 accepts_change history new (statement.update u) outcome is changes = changes
@@ -67,15 +68,15 @@ resolved_table tables (statement.update u) change resolved = (resolved.definitio
 resolved_table tables (statement.delete d) change resolved = (resolved.definition, resolved.table)
 resolved_table tables _ change resolved = absurd resolved
 
--- what holds of each of two lists together holds of each of the second
-all_behind : {A : Type 0} (P : A → Type 0) (xs ys : List A) → AllByRecursion P (xs ++ ys) → AllByRecursion P ys
-all_behind P [] ys all = all
-all_behind P (x ∷ xs) ys all = all_behind P xs ys all.1
+-- a fact of each element of two lists together, of the second
+all_of_second : {A : Type 0} (P : A → Type 0) (xs ys : List A) → AllByRecursion P (xs ++ ys) → AllByRecursion P ys
+all_of_second P [] ys all = all
+all_of_second P (x ∷ xs) ys all = all_of_second P xs ys all.1
 
 -- ---- steps
 
 module _ {S : Type 0} (g : Ghosts S) (history : History) (old : EngineState S) (s : Statement) (is : IsChange s) (kept : EngineRepresents g history old) where
-  -- what the tables in memory say, the history does
+  -- the tables in memory are those of the history
   of_history : (P : (Refusal → Type 0) → Type 0) → P (AppliesOver old.catalog.tables (clock_of history) s) → P (StatementApplies history s)
   of_history P p = subst (λ (tables : List TableDef). P (AppliesOver tables (clock_of history) s)) (tables_of g history old kept) p
 
@@ -103,32 +104,28 @@ module _ {S : Type 0} (g : Ghosts S) (history : History) (old : EngineState S) (
       (hold_now kept.contents old.tables kept.current (last_state history) (λ table day. state_said history kept.contents table day (is_left history kept.contents kept.said)))
 
   module _ (change : Change) (sound : NoneApplies (Holds (change_conditions old.catalog.tables s))) (empty : gives_empty old.catalog.tables s ≡ has_empty_row change.action) where
-    -- there is no plan, where a given row has no day or memory fails
+    -- there is no plan, if a given row has no day or memory fails
     pub unplanned_step : (refusal : Refusal) →
         ((refusal ≡ EmptyPeriod) × (has_empty_row change.action ≡ true)) ⊎ IsStoreRefusal refusal → StepsTo g history s (Err refusal) old
     unplanned_step refusal why =
         refused_step g history old s refusal kept (of_history (λ A. MayRefuse A refusal) (unplanned old.catalog.tables (clock_of history) s is change.action sound empty refusal why))
 
-    -- where no given row is empty, no condition of 1 to 41 holds
-    none_applies : (has_empty_row change.action ≡ true → ⊥) → NoneApplies (StatementApplies history s)
+    -- if no given row is empty, no condition of 1 to 41 holds
+    pub none_applies : (has_empty_row change.action ≡ true → ⊥) → NoneApplies (StatementApplies history s)
     none_applies days = of_history NoneApplies (none_without_empty old.catalog.tables (clock_of history) s is change.action sound empty days)
 
     -- the change is not lawful
+    pub unlawful_in : (refusal : Refusal) → ResolvesChange old.catalog.tables s change → (has_empty_row change.action ≡ true → ⊥) → IsFault old.catalog.tables (last_state history) change refusal → IsUnlawful history s refusal
+    unlawful_in refusal resolved days fault =
+        let same = tables_of g history old kept in record {
+          sound = none_applies days;
+          change = change;
+          resolved = subst (λ (tables : List TableDef). ResolvesChange tables s change) same resolved;
+          fault = subst (λ (tables : List TableDef). IsFault tables (last_state history) change refusal) same fault;
+        }
+
     pub unlawful_step : (refusal : Refusal) → ResolvesChange old.catalog.tables s change → (has_empty_row change.action ≡ true → ⊥) → IsFault old.catalog.tables (last_state history) change refusal → StepsTo g history s (Err refusal) old
-    unlawful_step refusal resolved days fault =
-        let same = tables_of g history old kept in (
-          history,
-          (
-            by_fault refusal (record {
-              sound = none_applies days;
-              change = change;
-              resolved = subst (λ (tables : List TableDef). ResolvesChange tables s change) same resolved;
-              fault = subst (λ (tables : List TableDef). IsFault tables (last_state history) change refusal) same fault;
-            }),
-            refl,
-          ),
-          kept,
-        )
+    unlawful_step refusal resolved days fault = (history, (by_fault refusal (unlawful_in refusal resolved days fault), refl), kept)
 
     module _ (plan : Plan) (of : IsPlanOf change.action (rows_in old.tables change.table) plan) where
       over : IsOver (kept.said.versions change.table).rows change.action plan
@@ -177,7 +174,7 @@ module _ {S : Type 0} (g : Ghosts S) (history : History) (old : EngineState S) (
           s (subst (λ (tables : List TableDef). NoneApplies (Holds (change_conditions tables s))) same sound) ours d there
           c.clock c.versions holds.rows over.listed plan kept.said.good.versions holds.all over.are_current over.plans in
           let values = all_from_map (λ (v : TableVersion). All IsColumnValue v.values) (added_in change.table c.clock forever) plan.added
-          (all_behind (λ (v : TableVersion). All IsColumnValue v.values) (flat_map (remains_of change.table c.clock plan.ended) c.versions) (map (added_in change.table c.clock forever) plan.added) held) in
+          (all_of_second (λ (v : TableVersion). All IsColumnValue v.values) (flat_map (remains_of change.table c.clock plan.ended) c.versions) (map (added_in change.table c.clock forever) plan.added) held) in
           good_planned c change.table d plan.ended plan.added there kept.said.good.clock kept.said.good.versions fits values
 
       -- a change whose plan is applied is a step

@@ -12,19 +12,18 @@ use Rattle.sqlite_trees.proofs.ListLemmas.{all-filter, all-slice_get}
 use Rattle.period_core.specs.declared.value.Value.{Value}
 use Rattle.period_core.specs.declared.value.Value.TheVariants as value
 use Rattle.sql_statements.specs.declared.statement.Assignment as written
-use Rattle.catalog_core.proofs.lemmas.change.GivenValues.{found_first}
+use Rattle.statement_resolution.proofs.lemmas.change.GivenValues.{found_first}
 use Rattle.catalog_core.proofs.lemmas.judged.Sound.{fails_at}
 use Rattle.catalog_core.proofs.lemmas.table.Distinct.{its_place}
-use Rattle.catalog_core.specs.Flaws.{is_flawed_set}
-use Rattle.catalog_core.specs.Positions.{resolved_assignment}
-use Rattle.catalog_core.specs.change.Insertion.{given_value, given_values, gives_faulty_value, is_longer, is_of_other_kind, is_too_long, is_faulty}
+use Rattle.statement_resolution.specs.Flaws.{OtherKind, TooLong, is_flawed_set}
+use Rattle.statement_resolution.specs.Positions.{resolved_assignment}
+use Rattle.statement_resolution.specs.change.Insertion.{given_value, given_values, gives_faulty_value, is_longer, is_of_other_kind, is_too_long, is_faulty}
 use Rattle.catalog_core.specs.query.Selection.{value_position}
 use Rattle.catalog_core.specs.table.Kinds.{differ, kind_of_column, kind_of_value, same_kind}
 use Rattle.catalog_core.specs.table.Naming.{Name, find_among, place_among}
 use Rattle.catalog_core.specs.table.TableWords.{def_kind, has_distinct_names, is_value_column, value_columns, value_names}
 use Rattle.catalog_core.specs.declared.change.Assignment.{Assignment}
-use Rattle.catalog_core.specs.declared.change.insert_values.ValueFault.TheVariants as fault
-use Rattle.catalog_core.specs.declared.flaw.Flaw.TheVariants.{OtherKind, TooLong}
+use Rattle.statement_resolution.specs.declared.change.insert_values.ValueFault.TheVariants as fault
 use Rattle.catalog_core.specs.declared.table.Column.{Column}
 use Rattle.catalog_core.specs.declared.table.ColumnKind.{ColumnKind}
 use Rattle.catalog_core.specs.declared.table.ColumnKind.TheVariants as kind
@@ -105,7 +104,7 @@ module _ (t : TableDef) (distinct : has_distinct_names t ≡ true) where
 
   -- ---- the rows of an INSERT
 
-  -- what is found among elements that pass no other test
+  -- an element that is found among those that pass no other test
   found : {X : Type 0} (p q : X → Bool) (xs : List X) (x : X) → list_any q xs ≡ false → find p xs ≡ Some x → (p x ≡ true) × (q x ≡ false)
   found p q [] x none is = absurd (none-some x is)
   found {X} p q (y ∷ xs) x none is =

@@ -52,7 +52,7 @@ use Rattle.version_tables.specs.declared.form.Form.TheVariants.{Microseconds}
 
 -- ---- AT
 
--- what is recorded up to the clock is recorded up to a later one
+-- a version recorded up to the clock is recorded up to a later one
 recorded_later : (clock later : ℤ) → clock ≤ℤ later → (v : TableVersion) → AreMoments Microseconds clock v.from v.to → AreMoments Microseconds later v.from v.to
 recorded_later clock later late v was =
     let begun : v.from ≤ℤ clock = was.past.0 in
@@ -79,7 +79,7 @@ good_later tables clock later late v is = record {
   moments = recorded_later clock later late v is.moments;
 }
 
--- what a history leaves, as the contents have it
+-- the versions that a history leaves, as the contents have them
 pub is_left : (history : History) (c : Contents) → AreOfHistory history c → IsLeft history c
 is_left history c said = record { order = said.order; versions = said.versions; is_clock = said.good.clock; recorded = recorded_of c said.good }
 
@@ -115,14 +115,14 @@ said-advanced history c moment said late before =
 
 -- ---- CREATE
 
--- the tables of the numbers stay as they are behind one more
+-- the tables of the numbers stay as they are after one more
 more_tables : (tables : List TableDef) (definition : TableDef) (number : ℕ) (d : TableDef) → table_of tables number ≡ Some d → table_of (tables ++ definition ∷ []) number ≡ Some d
 more_tables tables definition zero d there = there
 more_tables [] definition (suc place) d there = absurd (none-some d there)
 more_tables (first ∷ tables) definition (suc zero) d there = there
 more_tables (first ∷ tables) definition (suc (suc place)) d there = more_tables tables definition (suc place) d there
 
--- a definition that CREATE gives over lawful ones is lawful behind them
+-- a definition that CREATE gives over lawful ones is lawful after them
 lawful_more : (before tables : List TableDef) (definition : TableDef) → AreLawful before tables → IsLawful (before ++ tables) definition → AreLawful before (tables ++ definition ∷ [])
 lawful_more before [] definition lawful next = (subst (λ (l : List TableDef). IsLawful l definition) (append-nil before) next, tt)
 lawful_more before (first ∷ tables) definition lawful next =
@@ -174,7 +174,7 @@ begun_plain : (moment : ℤ) (added : List PeriodRow) → map plain_version (map
 begun_plain moment added = map-map plain_version (begun moment) added ∙ sym (map-map (begun_at moment) plain_row added)
 
 -- the added versions of a table, and of another
-added_there : (table other : ℕ) (moment : ℤ) (added : List PeriodRow) → (table == other) ≡ true → of_table other (map (added_in table moment forever) added) ≡ map (added_in table moment forever) added
+pub added_there : (table other : ℕ) (moment : ℤ) (added : List PeriodRow) → (table == other) ≡ true → of_table other (map (added_in table moment forever) added) ≡ map (added_in table moment forever) added
 added_there table other moment added here =
     filter_all (λ (v : TableVersion). v.table == other) (map (added_in table moment forever) added)
     (all-map (λ (v : TableVersion). (v.table == other) ≡ true) (added_in table moment forever) added
@@ -207,7 +207,7 @@ module _ (moment : ℤ) (action : Action) (plan : Plan) (rows : List VersionRow)
       (IsPermutation-filter_both (is_hit action) (λ (v : VersionRow). not (is_hit action v)) (λ v. refl) rows)
       (IsPermutation-append_left S (filter (is_hit action) rows) E (hits_end action rows over.listed plan over.are_current over.plans))
 
-  -- what stands after the plan is what the action makes
+  -- the rows after the plan are those that the action makes
   makes_planned : AppliesAction moment action rows (rows_after moment action plan rows)
   makes_planned =
       let C : List VersionRow = flat_map (closed_row moment) E in
@@ -281,7 +281,7 @@ module _ (history : History) (c : Contents) (change : Change) (plan : Plan) (sai
   abbrev after : Contents
   after = planned change.table c.clock plan.ended plan.added c
 
-  -- what is counted of the plan is what the history tells
+  -- the count of the plan is that of the history
   pub count_said : count_of change.action (versions_of history change.table) ≡ planned_count change.action plan
   count_said =
       let holds = said.versions change.table in
@@ -308,7 +308,7 @@ module _ (history : History) (c : Contents) (change : Change) (plan : Plan) (sai
           all = subst (λ (l : List TableVersion). IsPermutation l (map (version_in table) holds.rows)) (sym others) holds.all;
         }
 
-    holds_after : (table : ℕ) → HoldsTable history c.versions table → (b : Bool) → nat_eq table change.table ≡ b → HoldsTable (with_event history (Changed c.clock change)) after.versions table
+    pub holds_after : (table : ℕ) → HoldsTable history c.versions table → (b : Bool) → nat_eq table change.table ≡ b → HoldsTable (with_event history (Changed c.clock change)) after.versions table
     holds_after table holds true here =
         let same : change.table ≡ table = grind (arith, nat_tests, here) in
         subst (HoldsTable (with_event history (Changed c.clock change)) after.versions) same holds_there

@@ -41,7 +41,7 @@ all_current (v ∷ rows) = go (is_current v) refl (all_current rows)
     go true is more = (is, more)
     go false off more = more
 
-not_forever : (moment : ℤ) → moment <ℤ forever → int_eq moment forever ≡ false
+pub not_forever : (moment : ℤ) → moment <ℤ forever → int_eq moment forever ≡ false
 not_forever moment before = grind (arith, ints)
 
 -- a version that is closed before FOREVER is not current
@@ -84,7 +84,7 @@ module _ (history : History) (c : Contents) (change : Change) (plan : Plan) (sai
       (subst (IsPermutation (current rows)) (filter-append is_current plan.ended S ∙ ap (λ (l : List VersionRow). l ++ staying) (filter_all is_current plan.ended ended_current))
       (IsPermutation-filter is_current rows (plan.ended ++ S) (taken c.clock change.action plan rows over)))
 
-  -- those that stay and those that begin are the current ones afterwards
+  -- the rows that stay and those that begin are the current ones afterwards
   pub current_planned : HaveDistinctKeys c.versions → AreCurrentOf (planned change.table c.clock plan.ended plan.added c) change.table (map (begun c.clock) plan.added ++ staying)
   current_planned apart =
       let table = change.table in

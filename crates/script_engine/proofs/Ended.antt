@@ -1,4 +1,4 @@
--- What a plan leaves of the versions of a store.
+-- The versions of a store that a plan leaves.
 use Rattle.std.proofs.Common.{◌≡◌, ◌∷◌, ◌++◌, ◌∙◌, ◌==◌, ◌≤ℤ◌, ◌<ℤ◌, ℕ, ℤ, Bool, true, false, cond, List, [], Some, map, refl, sym, ap, ap₂, inl, inr, arith}
 use Rattle.std.specs.List.{All, AllByRecursion, filter, flat_map}
 use Rattle.std.specs.Ordering.{int_cmp, int_eq, is_eq}
@@ -25,7 +25,7 @@ use Rattle.version_tables.specs.declared.form.Form.TheVariants.{Microseconds}
 
 -- ---- by tables
 
--- what is left of the versions of a table is of that table
+-- the remains of the versions of a table are of that table
 pub of_left : (table other : ℕ) (moment : ℤ) (ended : List VersionRow) (vs : List TableVersion) → of_table other (flat_map (remains_of table moment ended) vs) ≡ flat_map (remains_of table moment ended) (of_table other vs)
 of_left table other moment ended [] = refl
 of_left table other moment ended (v ∷ vs) =
@@ -68,7 +68,7 @@ closed_plain moment (v ∷ rows) =
     one true = refl
     one false = refl
 
--- where each row is ended, each is closed; where none is, each stays
+-- if each row is ended, each is closed; if none is, each stays
 pub all_closed : (table : ℕ) (moment : ℤ) (ended rows : List VersionRow) → All (λ (v : VersionRow). is_ended table ended (version_in table v) ≡ true) rows →
     flat_map (remains_of table moment ended) (map (version_in table) rows) ≡ flat_map (closed_at moment) (map (version_in table) rows)
 all_closed table moment ended [] h = refl
@@ -85,7 +85,7 @@ none_closed table moment ended (v ∷ rows) h =
     (ap (λ (b : Bool). cond b (closed_at moment (version_in table v)) (version_in table v ∷ [])) h.0)
     (none_closed table moment ended rows h.1)
 
--- ---- what is recorded
+-- ---- recorded versions
 
 -- a version that is closed at the clock is recorded, unless it began then
 closed_recorded : (clock : ℤ) → IsClock Microseconds clock → (v : TableVersion) → AreMoments Microseconds clock v.from v.to → (b : Bool) → int_eq v.from clock ≡ b → AllByRecursion (λ (w : TableVersion). AreMoments Microseconds clock w.from w.to) (cond b [] (record v { to = clock } ∷ []))
@@ -102,7 +102,7 @@ closed_recorded clock is v was false e =
     same_moment : v.from ≡ clock → v.from <ℤ clock
     same_moment same = let there : int_eq v.from clock ≡ true = ap (int_eq v.from) (sym same) ∙ int_same v.from in absurd cc
 
-left_recorded : (table : ℕ) (clock : ℤ) (ended : List VersionRow) → IsClock Microseconds clock → (v : TableVersion) → AreMoments Microseconds clock v.from v.to → AllByRecursion (λ (w : TableVersion). AreMoments Microseconds clock w.from w.to) (remains_of table clock ended v)
+pub left_recorded : (table : ℕ) (clock : ℤ) (ended : List VersionRow) → IsClock Microseconds clock → (v : TableVersion) → AreMoments Microseconds clock v.from v.to → AllByRecursion (λ (w : TableVersion). AreMoments Microseconds clock w.from w.to) (remains_of table clock ended v)
 left_recorded table clock ended is v was = go (is_ended table ended v)
   where
     go : (b : Bool) → AllByRecursion (λ (w : TableVersion). AreMoments Microseconds clock w.from w.to) (cond b (closed_at clock v) (v ∷ []))
@@ -110,7 +110,7 @@ left_recorded table clock ended is v was = go (is_ended table ended v)
     go false = (was, tt)
 
 -- a row that is added at the clock is recorded
-recorded_now : (clock : ℤ) → IsClock Microseconds clock → AreMoments Microseconds clock clock forever
+pub recorded_now : (clock : ℤ) → IsClock Microseconds clock → AreMoments Microseconds clock clock forever
 recorded_now clock is =
     let first : first_moment ≤ℤ clock = is.0 in
     let before : clock <ℤ forever = is.1 in
@@ -121,9 +121,9 @@ recorded_now clock is =
       past = (omega (arith, ints), inr refl);
     }
 
--- ---- what is good
+-- ---- good versions
 
--- what is left of a good version is good
+-- the remains of a good version are good
 left_good : (tables : List TableDef) (table : ℕ) (clock : ℤ) (ended : List VersionRow) → IsClock Microseconds clock → (v : TableVersion) → IsGoodVersion tables clock v → AllByRecursion (IsGoodVersion tables clock) (remains_of table clock ended v)
 left_good tables table clock ended is v good = go (is_ended table ended v) (int_eq v.from clock) (left_recorded table clock ended is v good.moments)
   where

@@ -30,7 +30,7 @@ use Rattle.script_engine.proofs.CurrentAfter.{S, all_begun, ended_current, is_cu
 use Rattle.script_engine.proofs.PlanFacts.{one_version}
 
 -- version rows that are, as versions of a table, those that have ended
-ended_rows : (table : ℕ) (versions : List TableVersion) (rows ended : List VersionRow) → IsPermutation (of_table table versions) (map (version_in table) rows) → IsPermutation (ended_of table versions) (map (version_in table) ended) →
+pub ended_rows : (table : ℕ) (versions : List TableVersion) (rows ended : List VersionRow) → IsPermutation (of_table table versions) (map (version_in table) rows) → IsPermutation (ended_of table versions) (map (version_in table) ended) →
     IsPermutation (filter has_ended rows) ended
 ended_rows table versions rows ended all are =
     let ours : List VersionRow = filter has_ended rows in
@@ -58,7 +58,7 @@ module _ (history : History) (c : Contents) (change : Change) (plan : Plan) (sai
       subst (IsPermutation (filter has_ended R₀)) (filter-append has_ended plan.ended S₀ ∙ ap (λ (l : List VersionRow). l ++ filter has_ended S₀) none)
       (IsPermutation-filter has_ended R₀ (plan.ended ++ S₀) (taken c.clock change.action plan R₀ over))
 
-  -- those that the plan ends come to them
+  -- the versions that the plan ends come to them
   pub ended_planned : (list : List PackedVersion) → HaveDistinctKeys c.versions → HasEnded c change.table list → AreOfColumns (closed_at c.clock plan.ended) →
       HasEnded (planned change.table c.clock plan.ended plan.added c) change.table (list ++ map packed (closed_at c.clock plan.ended))
   ended_planned list apart has held =
@@ -173,7 +173,7 @@ have_closed lists place old new more there held made = record {
     others zero off = refl
     others (suc other) off = set_elsewhere lists place other new (λ same. off (ap suc same))
 
--- the same list at its place
+-- a list that is written at its own place
 pub set_same : (lists : List (List PackedVersion)) (place : ℕ) (old new : List PackedVersion) → slice_get lists place ≡ Some old → new ≡ old → set lists place new ≡ lists
 set_same [] place old new there same = cc
 set_same (l ∷ lists) zero old new there same = let is : l ≡ old = cc in ap (λ x. x ∷ lists) (same ∙ sym is)
@@ -181,7 +181,7 @@ set_same (l ∷ lists) (suc place) old new there same = ap (λ ls. l ∷ ls) (se
 
 -- ---- the clock
 
--- what ended by a moment ended by a later one
+-- versions that ended by a moment ended by a later one
 ended_by : (old new : ℤ) → old ≤ℤ new → (lists : List (List PackedVersion)) → AllEndedBy old lists → AllEndedBy new lists
 ended_by old new le lists all k d below m e inside =
     let was : (get_or (get_or lists k d) m e).to ≤ℤ old = all k d below m e inside in

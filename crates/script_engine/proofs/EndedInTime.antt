@@ -13,12 +13,12 @@ use Rattle.period_core.specs.Moments.{forever}
 use Rattle.period_core.specs.declared.version.VersionRow.{VersionRow}
 use Rattle.history_model.specs.Versions.{IsRecorded}
 use Rattle.version_store.specs.Contents.{Contents, of_table, version_in}
-use Rattle.version_store.specs.GoodStore.{AreGood, NothingMore}
+use Rattle.version_store.specs.GoodStore.{AreGood, NoExtraCondition}
 use Rattle.script_engine.specs.engine.Ended.{SomeEndedAfter, has_ended}
 use Rattle.script_engine.proofs.LastState.{recorded_rows}
 use Rattle.script_engine.proofs.Recorded.{recorded_of}
 
--- what is greater is later
+-- a greater moment is later
 pub later : (a b : ℤ) → true ≡ is_gt (int_cmp a b) → b <ℤ a
 later a b on = go (int_cmp a b) on (int_ranks a b)
   where
@@ -27,7 +27,7 @@ later a b on = go (int_cmp a b) on (int_ranks a b)
     go Equal off rank = absurd cc
     go Greater greater rank = rank
 
--- what ended of what is recorded up to the clock ended by then
+-- versions recorded up to the clock ended by then, if they ended
 all_in_time : (clock : ℤ) (rows : List VersionRow) → AllByRecursion (IsRecorded clock) rows → AllByRecursion (λ (v : VersionRow). v.to ≤ℤ clock) (filter has_ended rows)
 all_in_time clock [] are = tt
 all_in_time clock (v ∷ rows) are = go (int_eq v.to forever) refl (all_in_time clock rows are.1)
@@ -41,7 +41,7 @@ all_in_time clock (v ∷ rows) are = go (int_eq v.to forever) refl (all_in_time 
         by_end (inr past) = past
 
 -- so none of a table's that is read of a good store ended later
-pub none_late : (c : Contents) (clock : ℤ) (number : ℕ) (rows : List VersionRow) → AreGood NothingMore c → c.clock ≡ clock → IsPermutation (of_table number c.versions) (map (version_in number) rows) → SomeEndedAfter clock (filter has_ended rows) → ⊥
+pub none_late : (c : Contents) (clock : ℤ) (number : ℕ) (rows : List VersionRow) → AreGood NoExtraCondition c → c.clock ≡ clock → IsPermutation (of_table number c.versions) (map (version_in number) rows) → SomeEndedAfter clock (filter has_ended rows) → ⊥
 none_late c clock number rows good is all (version, among, after) =
     let recorded = recursion_from_All (IsRecorded c.clock) rows (recorded_rows c number rows (recorded_of c good) all) in
     let past : version.to ≤ℤ c.clock = All-contains (λ (v : VersionRow). v.to ≤ℤ c.clock) (filter has_ended rows) version (All-from_recursion (λ (v : VersionRow). v.to ≤ℤ c.clock) (filter has_ended rows) (all_in_time c.clock rows recorded)) among in

@@ -24,7 +24,7 @@ use Rattle.version_store.specs.GoodStore.{HaveTables}
 use Rattle.script_engine.specs.engine.Ended.{AreInOrderOfEnds, HasEnded, HaveEnded, ended_in, ended_of, has_ended, table_ended}
 use Rattle.script_engine.proofs.Loaded.{none_there}
 
--- those of a table's rows that have ended, in any order, in a list
+-- the rows of a table that have ended, in any order, in a list
 pub table_loaded : (c : Contents) (number : ℕ) (rows ended : List VersionRow) (list : List PackedVersion) → IsPermutation (of_table number c.versions) (map (version_in number) rows) → Hold list ended → IsPermutation (filter has_ended rows) ended → HasEnded c number list
 table_loaded c number rows ended list are held same = record {
   versions = ended;
@@ -71,7 +71,7 @@ one_loaded c count ls l was has = record {
             let list : l ≡ ended_in (ls ++ l ∷ []) (suc place) = sym (the_last ls l) ∙ ap (λ (n : ℕ). ended_in (ls ++ l ∷ []) (suc n)) last in
             subst (λ (n : ℕ). HasEnded c n (ended_in (ls ++ l ∷ []) (suc place))) number (subst (HasEnded c (count + 1)) list has)
 
--- no version is of a table that is not there
+-- no version is of a table that is missing
 none_ended : (c : Contents) (number : ℕ) (list : List PackedVersion) → table_of c.tables number ≡ None → HaveTables c → list ≡ [] → HasEnded c number list
 none_ended c number list none tabled empty =
     subst (HasEnded c number) (sym empty) (record {
@@ -118,7 +118,7 @@ in_order versions up = λ i j d lt below.
     let far : is_lt (int_cmp b a) ≡ false = sorted_far (λ (x y : VersionRow). is_lt (int_cmp x.to y.to)) (ranks_by int_cmp_total (λ (v : VersionRow). v.to)) versions up i j d (omega (arith, lt)) below in
     by_lt_z {P = a ≤ℤ b} b a (λ less. let wrong : is_lt (int_cmp b a) ≡ true = ap is_lt (int_cmp-Less b a less) in cc) (λ upto. upto)
 
--- what is not later is no later
+-- a moment that is not later is no later
 pub not_later : (a b : ℤ) → false ≡ is_gt (int_cmp a b) → a ≤ℤ b
 not_later a b off =
     by_lt_z {P = a ≤ℤ b} b a

@@ -1,9 +1,8 @@
--- What the references of a query of the catalog see in a history fits the query: a list for each, of rows of its table.
-use Rattle.std.proofs.Common.{◌≡◌, ◌==◌, ◌∷◌, ◌∙◌, ℕ, Bool, true, List, [], None, Option, Some, Contains, ap, arith, eqb-true, length, map, refl, subst, sym, suc, zero}
+-- The rows that a reference of the catalog sees in a history have the kinds of its table.
+use Rattle.std.proofs.Common.{◌≡◌, ◌==◌, ◌∷◌, ◌∙◌, ℕ, Bool, true, List, [], None, Option, Some, Contains, ap, arith, eqb-true, map, refl, subst, sym, suc, zero}
 use Rattle.std.specs.List.{AllByRecursion, list_all}
 use Rattle.std.specs.Option.{option_map}
 use Rattle.std.proofs.lemmas.Bool.{and_parts, false≢true}
-use Rattle.std.proofs.lemmas.Bool.Decides.{nat_tests}
 use Rattle.std.proofs.lemmas.List.Sorted.{IsPermutation-sym}
 use Rattle.sqlite_trees.proofs.ListLemmas.{all-append, all-filter, all-map, all-permutation, all_both, all_from_map}
 use Rattle.period_core.specs.Windows.{window_sees}
@@ -13,10 +12,10 @@ use Rattle.period_core.specs.declared.value.Value.TheVariants as value
 use Rattle.period_core.specs.declared.version.VersionRow.{VersionRow}
 use Rattle.sql_statements.specs.Trees as written
 use Rattle.sql_statements.specs.declared.statement.TableReference.{TableReference}
-use Rattle.catalog_core.specs.query.Fitting.{fits, has_kinds, sees_its_kinds}
-use Rattle.catalog_core.specs.query.Queries.{Query, both, one, references_of, rows_for}
-use Rattle.catalog_core.specs.query.Resolving.{ReferenceParts, ResolvesSequenced, ResolvesSteps, ResolvesTree, reference_parts, value_kinds, written_reference}
-use Rattle.catalog_core.specs.query.Scopes.{tables_of}
+use Rattle.catalog_core.specs.query.Fitting.{has_kinds}
+use Rattle.catalog_core.specs.query.Queries.{Query, both, one, references_of}
+use Rattle.statement_resolution.specs.query.Resolving.{ReferenceParts, ResolvesSequenced, ResolvesSteps, ResolvesTree, reference_parts, value_kinds, written_reference}
+use Rattle.statement_resolution.specs.query.Scopes.{tables_of}
 use Rattle.catalog_core.specs.table.Kinds.{kind_of_column, kind_of_value, same_kind}
 use Rattle.catalog_core.specs.table.TableWords.{number_of, table_of, table_of_name, value_columns}
 use Rattle.catalog_core.specs.declared.query.resolved.QueryReference.{QueryReference}
@@ -33,9 +32,8 @@ use Rattle.history_model.specs.Histories.{History}
 use Rattle.history_model.specs.HistoryVersions.{versions_of}
 use Rattle.history_model.specs.Versions.{PlainVersion, plain_version, row_of}
 use Rattle.ended_versions.specs.Packed.{seen_through}
-use Rattle.script_engine.specs.engine.Answering.{EachSees, IsKnown, IsOfCatalog, SeesRows}
+use Rattle.script_engine.specs.engine.Answering.{IsKnown, IsOfCatalog, SeesRows}
 use Rattle.script_engine.specs.engine.Stored.{AreOfHistory}
-use Rattle.script_engine.proofs.Answering.{in_its_place}
 
 -- ---- a resolved query is of its catalog
 
@@ -129,7 +127,7 @@ module _ (history : History) (c : Contents) (said : AreOfHistory history c) (ref
       let seen = all-filter (λ (row : VersionRow). Fit row.values) (λ (v : VersionRow). window_sees reference.window v.from v.to) sees.versions versions in
       all-permutation (λ (row : PeriodRow). Fit row.values) _ _ sees.all (all-map (λ (row : PeriodRow). Fit row.values) row_of (seen_through reference.window sees.versions) seen)
 
--- ---- so the lists fit
+-- ---- lists of which a test holds
 
 pub all_are : {A : Type 0} (p : A → Bool) (xs : List A) → AllByRecursion (λ (x : A). p x ≡ true) xs → list_all p xs ≡ true
 all_are p [] all = refl
@@ -139,19 +137,3 @@ all_are p (x ∷ xs) all = rw all.0 (all_are p xs all.1)
 pub each_among : {A : Type 0} (P : A → Type 0) (xs : List A) → ((x : A) → Contains xs x → P x) → AllByRecursion P xs
 each_among P [] each = tt
 each_among P (x ∷ xs) each = (each x (zero, omega arith, refl), each_among P xs (λ y among. each y (suc among.0, (let low = among.1 in omega (arith, low)), among.2)))
-
-as_many : (history : History) (references : List QueryReference) (lists : List (List PeriodRow)) → EachSees history references lists → length lists ≡ length references
-as_many history [] [] each = refl
-as_many history [] (rows ∷ lists) each = absurd each
-as_many history (reference ∷ references) [] each = absurd each
-as_many history (reference ∷ references) (rows ∷ lists) each = ap suc (as_many history references lists each.1)
-
-pub always_fits : (history : History) (c : Contents) (query : Query) (tables : List (List PeriodRow)) → AreOfHistory history c → IsOfCatalog c.tables query → EachSees history (references_of query) tables → fits query tables ≡ true
-always_fits history c query tables said known each =
-    let references = references_of query in
-    let long : (length tables == length references) ≡ true = (let same = as_many history references tables each in grind (arith, nat_tests, same)) in
-    let sees : AllByRecursion (λ (r : QueryReference). SeesRows history r (rows_for tables r)) references = each_among _ references (λ r among. in_its_place history references [] tables known.placed each r among) in
-    let kinds : AllByRecursion (λ (r : QueryReference). sees_its_kinds tables r ≡ true) references =
-    all_both (IsKnown c.tables) (λ (r : QueryReference). SeesRows history r (rows_for tables r)) (λ (r : QueryReference). sees_its_kinds tables r ≡ true)
-    (λ r its seen. all_are (λ (row : PeriodRow). has_kinds r.kinds row.values) (rows_for tables r) (rows_fit history c said r its (rows_for tables r) seen)) references known.known sees in
-    rw (known.placed, long, all_are (sees_its_kinds tables) references kinds) refl

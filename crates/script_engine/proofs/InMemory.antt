@@ -107,6 +107,6 @@ current-changed c after table wanted old new made was tables are elsewhere = rec
         subst (λ (rows : List VersionRow). AreCurrentOf after number rows) (sym (made.others number away))
         (subst (λ (vs : List TableVersion). IsPermutation (filter (λ (v : TableVersion). window_sees Now v.from v.to) vs) (map (version_in number) (rows_in old number))) (sym (elsewhere number away)) (was.rows number))
 
--- where they are the same rows in any order, nothing has changed
+-- rows that are the old ones in any order are no change
 pub current-kept : (c : Contents) (table : ℕ) (old new : List RowsByKey) → HaveRows table (rows_in old table) old new → HaveCurrentRows c old → HaveCurrentRows c new
 current-kept c table old new same was = current-changed c c table (rows_in old table) old new same was refl (was.rows table) (λ other off. refl)

@@ -124,11 +124,11 @@ follow_popped catalog last old new count counted popped was =
     first_of [] end = refl
     first_of (t ∷ before) end = ap (λ (l : List TableRows). t ∷ l) (first_of before end)
 
--- the same rows with more indexes
+-- equal rows with more indexes
 pub same_rows_of : (old new : List TableRows) → HaveMoreIndexes old new → map rows_by_key new ≡ map rows_by_key old
 same_rows_of old new more = more.same
 
--- ---- what a call gives
+-- ---- results of calls
 
 pub on_ok_both : {X E : Type 0} {P Q R : Type 0} (r : Result X E) → (P → Q → R) → OnOk r P → OnOk r Q → OnOk r R
 on_ok_both (Ok x) f p q = f p q
@@ -156,7 +156,7 @@ parted_rows old middle begins ended stay grown split =
     (IsPermutation-append_right begins old.rows (ended ++ stay) split)
     (exchange begins ended stay))
 
--- once those that end are gone, the others are left
+-- once those that end are gone, the rest are left
 pub taken_after : (old middle new : TableRows) (begins stay : List VersionRow) → HasTableRows (begins ++ old.rows) old middle → HasTableRows (begins ++ stay) middle new → HasTableRows (begins ++ stay) old new
 taken_after old middle new begins stay grown taken = record {
   positions = taken.positions ∙ grown.positions;

@@ -1,4 +1,4 @@
--- What is known of a change that is planned over the rows in memory, as it is judged.
+-- A change that is planned over the rows in memory, as it is judged.
 use Rattle.std.proofs.Common.{◌≡◌, ◌∙◌, List, Some, map, subst, sym}
 use Rattle.catalog_core.specs.table.TableWords.{table_of}
 use Rattle.catalog_core.specs.declared.change.Change.{Change}
@@ -24,7 +24,7 @@ same_table x y e = cc
 module _ (catalog : List TableDef) (tables : List TableRows) (table : TableRows) (change : Change) (plan : Plan) (def : TableDef)
     (follow : FollowCatalog catalog tables) (is : table_of catalog change.table ≡ Some def) (there : table_of tables change.table ≡ Some table) (planned : IsPlanOf change.action table.rows plan)
     (before : State) (lawful : IsLawfulState catalog before) (hold : HoldCurrent catalog before (map rows_by_key tables)) where
-  -- its table's rows are those that the state has
+  -- the table's rows are those that the state has
   held : HoldsCurrent before change.table def (rows_by_key table)
   held =
       let (rows, rows_are, holds) = hold change.table def is in

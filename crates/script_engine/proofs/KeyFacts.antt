@@ -81,9 +81,9 @@ are_ended table ended place v inside =
     list_any_at (λ (row : VersionRow). same_version (version_in table row) (version_in table (get_or ended place v))) ended place v inside
     (same_itself (version_in table (get_or ended place v)))
 
-all_behind : {X : Type 0} (P : X → Type 0) (xs ys : List X) → AllByRecursion P (xs ++ ys) → AllByRecursion P ys
-all_behind P [] ys h = h
-all_behind P (x ∷ xs) ys h = all_behind P xs ys h.1
+pub all_of_second : {X : Type 0} (P : X → Type 0) (xs ys : List X) → AllByRecursion P (xs ++ ys) → AllByRecursion P ys
+all_of_second P [] ys h = h
+all_of_second P (x ∷ xs) ys h = all_of_second P xs ys h.1
 
 neither : (a b : Bool) → a ≡ false → b ≡ false → (a || b) ≡ false
 neither true b e f = e
@@ -96,6 +96,6 @@ rest_stays table (row ∷ ended) stay apart =
     all_both (λ (v : VersionRow). same_version (version_in table row) (version_in table v) ≡ false) (λ (v : VersionRow). is_ended table ended (version_in table v) ≡ false)
     (λ (v : VersionRow). is_ended table (row ∷ ended) (version_in table v) ≡ false)
     (λ v here there. neither (same_version (version_in table row) (version_in table v)) (is_ended table ended (version_in table v)) here there) stay
-    (all_behind (λ (v : VersionRow). same_version (version_in table row) (version_in table v) ≡ false) ended stay
+    (all_of_second (λ (v : VersionRow). same_version (version_in table row) (version_in table v) ≡ false) ended stay
     (all_from_map (λ (y : TableVersion). same_version (version_in table row) y ≡ false) (version_in table) (ended ++ stay) apart.0))
     (rest_stays table ended stay apart.1)

@@ -1,4 +1,4 @@
--- What a stored query whose condition fixes a key shows of the versions that may have it.
+-- A stored query whose condition fixes a key shows the same of the versions that may have the key.
 use Rattle.std.proofs.Common.{◌≡◌, ◌∙◌, ℕ, true, List, ap, reverse, sym}
 use Rattle.std.specs.List.{filter}
 use Rattle.std.proofs.lemmas.Bool.{eq-eqb}
@@ -11,7 +11,7 @@ use Rattle.period_keys.specs.Versions.{version_key}
 use Rattle.ended_versions.specs.Hashes.{hash_at, hash_of, shares_hash}
 use Rattle.ended_versions.proofs.FoundFacts.{filter-reverse}
 
--- it is what it shows of all
+-- the query shows of the versions that share the key's hash what it shows of all
 pub keyed_shown :
     (query : Stored) (positions : List ℕ) (key : List Value) (seen : List VersionRow) → ((v : VersionRow) → is_shown query v ≡ true → version_key positions v ≡ key)
     → shown_versions query (reverse (filter (shares_hash positions key) seen)) ≡ shown_versions query (reverse seen)

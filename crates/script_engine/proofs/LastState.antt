@@ -1,4 +1,4 @@
--- What the last state of a history holds, by the current versions of a store; and that it stays lawful with each event.
+-- The last state of a history, by the current versions of a store; it stays lawful with each event.
 use Rattle.std.proofs.Common.{◌≡◌, ◌≤◌, ◌<◌, ◌++◌, ◌∷◌, ◌==◌, ◌∙◌, ◌≤ℤ◌, ◌<ℤ◌, ◌⊎◌, Bool, ℕ, zero, suc, ℤ, List, [], Option, Some, append-nil, append_assoc, length, map, refl, subst, sym, ap, take, inl, inr, arith}
 use Rattle.std.specs.List.{All, Contains, filter, slice_get}
 use Rattle.std.specs.List.Sorted.{IsPermutation}
@@ -47,7 +47,7 @@ use Rattle.script_engine.proofs.PlanFacts.{current_listed}
 use Rattle.script_engine.proofs.Recorded.{AreRecorded}
 use Rattle.version_tables.specs.declared.form.Form.TheVariants.{Microseconds}
 
--- ---- what is recorded
+-- ---- recorded versions
 
 -- versions of a store are recorded up to its clock, as version rows too
 pub recorded_rows : (c : Contents) (table : ℕ) (rows : List VersionRow) → AreRecorded c → IsPermutation (of_table table c.versions) (map (version_in table) rows) → All (IsRecorded c.clock) rows
@@ -71,12 +71,12 @@ holds_on day row = covers_day row.period.start row.period.end day
 abbrev version_holds : ℤ → TableVersion → Bool
 version_holds day v = covers_day v.start v.end day
 
--- the same rows in another order hold the same on each day
+-- equal rows in another order hold equal values on each day
 pub values_along : (rows others : List PeriodRow) (day : ℤ) → IsPermutation rows others → IsPermutation (values_on rows day) (values_on others day)
 values_along rows others day same =
     IsPermutation-map (λ (r : PeriodRow). r.values) (filter (holds_on day) rows) (filter (holds_on day) others) (IsPermutation-filter (holds_on day) rows others same)
 
--- what a history leaves of a table, as the contents have it
+-- the versions that a history leaves of a table, as the contents have them
 pub record IsLeft (history : History) (c : Contents) : Type 0 where
   pub order : IsInOrder history
   pub versions : (table : ℕ) → HoldsTable history c.versions table
@@ -177,7 +177,7 @@ lawful_empty catalog state none = record {
 -- ---- catalogs
 
 -- each definition is one that CREATE gives over those before it
-each_lawful : (before more : List TableDef) (place : ℕ) (d : TableDef) → AreLawful before more → slice_get more place ≡ Some d → IsLawful (before ++ take place more) d
+pub each_lawful : (before more : List TableDef) (place : ℕ) (d : TableDef) → AreLawful before more → slice_get more place ≡ Some d → IsLawful (before ++ take place more) d
 each_lawful before [] place d lawful is = cc
 each_lawful before (x ∷ more) zero d lawful is =
     let same : x ≡ d = cc in
@@ -252,7 +252,7 @@ lawful_with_table catalog d state ordered none lawful = record {
             no_child (own_positions child reference) (state (suc place) day) (parent_positions parent reference) (state reference.parent day) (ap (λ (n : ℕ). state (suc n) day) last ∙ none day) lacks
       ]
 
--- the same rows on each day
+-- states with equal rows on each day
 pub lawful_same : (catalog : List TableDef) (state other : State) → ((table : ℕ) (day : ℤ) → other table day ≡ state table day) → IsLawfulState catalog state → IsLawfulState catalog other
 lawful_same catalog state other same lawful = lawful_along catalog state other (λ table day. IsPermutation-same (state table day) (other table day) (sym (same table day))) lawful
 

@@ -14,7 +14,7 @@ use Rattle.history_model.specs.Effects.{Traced, acts_on, inserted_covers, insert
 use Rattle.history_model.specs.Histories.{State}
 use Rattle.period_keys.specs.Lawful.{IsLawfulChange, OriginsShareKey, key_positions}
 
--- ---- how many rows are traced
+-- ---- the number of traced rows
 
 shorter : {X : Type 0} (p : X → Bool) (xs : List X) → length (filter p xs) ≤ length xs
 shorter p [] = omega arith
@@ -49,7 +49,7 @@ alone positions (row ∷ other ∷ rows) short shared = omega (arith, short)
 abbrev pub HaveNoReferences : List TableDef → Type 0
 HaveNoReferences catalog = (number : ℕ) (child : TableDef) → table_of catalog number ≡ Some child → child.references ≡ []
 
--- a change is lawful where it leaves no two rows of different origins with one key
+-- a change is lawful if it leaves no two rows of different origins with one key
 pub lawful_by_key : (catalog : List TableDef) (before : State) (change : Change) → HaveNoReferences catalog →
     ((day : ℤ) (def : TableDef) → table_of catalog change.table ≡ Some def → OriginsShareKey (key_positions def) (traced change.action day (before change.table day)) → ⊥) → IsLawfulChange catalog before change
 lawful_by_key catalog before change none apart = record {

@@ -1,4 +1,4 @@
--- What one more event makes of the versions that a history leaves, and of its order.
+-- The versions that a history leaves, and its order, with one more event.
 use Rattle.std.proofs.Common.{◌≡◌, ◌++◌, ◌∷◌, ◌∙◌, ℕ, ℤ, Bool, true, false, List, [], fold, map, nat_eq, refl, subst, sym}
 use Rattle.std.specs.List.Sorted.{IsPermutation}
 use Rattle.std.proofs.lemmas.List.Sorted.{IsPermutation-refl}

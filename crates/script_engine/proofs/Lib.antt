@@ -14,6 +14,10 @@ mod PlanFacts
 mod Recorded
 mod SameInMemory
 mod Refused
+mod ShortRows
+mod PlannedKeys
+mod CanMake
+mod OnFault
 mod Resolved
 mod ScriptFacts
 mod Seen
@@ -39,6 +43,10 @@ mod KeyFacts
 mod LastState
 mod LeftSteps
 mod ListeningFacts
+mod TimedFacts
+mod NotedFacts
+mod UnwrittenFacts
+mod ReadOnlyFacts
 mod Needed
 mod NeededPast
 mod NewStore

@@ -1,4 +1,4 @@
--- What listeners are handed, and the results of the first pieces.
+-- The results that listeners are handed, and those of the first pieces.
 use Rattle.std.proofs.Common.{◌≡◌, ◌≤◌, ◌<◌, ◌+◌, ◌++◌, ◌∷◌, ◌∙◌, ℕ, Bool, List, [], length, map, take, drop, false, true, ap, arith, inl, inr, refl, subst, sym, append_assoc, vec_capacity, vec_len}
 use Rattle.std.proofs.lemmas.List.{append-nil, map-append, take-append-drop}
 use Rattle.sql_front.specs.Pieces.{spanned}
@@ -6,16 +6,16 @@ use Rattle.sql_front.specs.declared.pieces.Span.{Span}
 use Rattle.sql_statements.specs.Lexemes.{Lexeme}
 use Rattle.script_engine.specs.declared.script.listener.AllKept.{AllKept}
 use Rattle.script_engine.specs.script.Keeping.{AddsWhereRoom}
-use Rattle.script_engine.specs.script.Listening.{HearsAll, StepFront}
+use Rattle.script_engine.specs.script.Listening.{ReceivesAll, StepFront}
 use Rattle.script_engine.specs.script.Script.{StepPieces}
 
-heard_last : {L K : Type 0} (Hears : L → ℕ → K → Bool → L → Type 0) (n : ℕ) (old : L) (result : K) (goes_on : Bool) (new : L) → Hears old n result goes_on new → HearsAll Hears n old (result ∷ []) goes_on new
+heard_last : {L K : Type 0} (Hears : L → ℕ → K → Bool → L → Type 0) (n : ℕ) (old : L) (result : K) (goes_on : Bool) (new : L) → Hears old n result goes_on new → ReceivesAll Hears n old (result ∷ []) goes_on new
 heard_last Hears n old result false new heard = inl (heard, refl, refl)
 heard_last Hears n old result true new heard = inr (new, heard, (refl, refl))
 
 -- one result more
 pub hears_more : {L K : Type 0} (Hears : L → ℕ → K → Bool → L → Type 0) (n at : ℕ) (old : L) (results : List K) (middle : L) (result : K) (goes_on : Bool) (new : L) →
-    n + length results ≡ at → HearsAll Hears n old results true middle → Hears middle at result goes_on new → HearsAll Hears n old (results ++ result ∷ []) goes_on new
+    n + length results ≡ at → ReceivesAll Hears n old results true middle → Hears middle at result goes_on new → ReceivesAll Hears n old (results ++ result ∷ []) goes_on new
 hears_more Hears n at old [] middle result goes_on new counted (same, on) heard =
     let first : n ≡ at = omega (arith, counted) in
     heard_last Hears n old result goes_on new (subst (λ l. Hears l n result goes_on new) same (subst (λ k. Hears middle k result goes_on new) (sym first) heard))
@@ -26,7 +26,7 @@ hears_more Hears n at old (first ∷ results) middle result goes_on new counted 
 
 -- a list with room for all has them all
 module _ {K : Type 0} where
-  pub all_kept : (n : ℕ) (old : AllKept K) (results : List K) (goes_on : Bool) (new : AllKept K) → HearsAll AddsWhereRoom n old results goes_on new → vec_len old.kept + length results ≤ vec_capacity old.kept →
+  pub all_kept : (n : ℕ) (old : AllKept K) (results : List K) (goes_on : Bool) (new : AllKept K) → ReceivesAll AddsWhereRoom n old results goes_on new → vec_len old.kept + length results ≤ vec_capacity old.kept →
       (new.kept.items ≡ old.kept.items ++ results) × (goes_on ≡ true)
   all_kept n old [] goes_on new (same, on) room = (ap (λ (l : AllKept K). l.kept.items) same ∙ sym (append-nil old.kept.items), on)
   all_kept n old (result ∷ results) goes_on new (inl (heard, none, off)) room =

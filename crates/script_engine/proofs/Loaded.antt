@@ -23,7 +23,7 @@ use Rattle.script_engine.specs.engine.InMemory.{AreCurrentOf, HaveCurrentRows, k
 
 -- ---- one table
 
--- those of a table's versions that are current, in any order
+-- the versions of a table that are current, in any order
 pub current_loaded : (c : Contents) (number : ℕ) (rows loaded : List VersionRow) → IsPermutation (of_table number c.versions) (map (version_in number) rows) → IsPermutation (filter is_current rows) loaded → AreCurrentOf c number loaded
 current_loaded c number rows loaded are same =
     let sees = λ (v : TableVersion). window_sees Now v.from v.to in
@@ -84,7 +84,7 @@ one_loaded c count ts t d was inside key are = record {
 
 -- ---- all tables
 
--- no version is of a table that is not there
+-- no version is of a table that is missing
 of_none : (c : Contents) (number : ℕ) (v : TableVersion) → table_of c.tables number ≡ None → (d : TableDef) × (table_of c.tables v.table ≡ Some d) → (v.table == number) ≡ false
 of_none c number v none there = go (v.table == number) refl
   where

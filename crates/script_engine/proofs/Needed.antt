@@ -1,5 +1,5 @@
--- What is needed of the rows that references see is enough: a query gives the same of it.
-use Rattle.std.proofs.Common.{◌≡◌, ◌↔◌, ◌&&◌, ◌==◌, ◌+◌, ◌++◌, ◌∷◌, ◌∙◌, ℕ, ℤ, Bool, true, List, [], append_assoc, append-nil, arith, eqb-true, filter, length, length-append, map, refl, Some, sym, ap, subst, inl, inr}
+-- Needed rows of those that references see are enough: a query gives the same of them.
+use Rattle.std.proofs.Common.{◌≡◌, ◌↔◌, ◌&&◌, ◌==◌, ◌+◌, ◌++◌, ◌∷◌, ◌∙◌, ℕ, ℤ, Bool, true, List, [], append_assoc, append-nil, arith, eqb-true, filter, length, length-append, map, refl, Some, sym, ap, subst, take, inl, inr}
 use Rattle.std.specs.Prelude.{slice_index_or}
 use Rattle.std.specs.List.{AllByRecursion, Contains, list_all}
 use Rattle.std.specs.List.Sorted.{IsPermutation}
@@ -7,7 +7,6 @@ use Rattle.std.proofs.lemmas.Bool.{and_parts}
 use Rattle.std.proofs.lemmas.Bool.Decides.{nat_tests}
 use Rattle.std.proofs.lemmas.List.Sorted.{Contains-permutation, IsPermutation-sym}
 use Rattle.sqlite_trees.proofs.ListLemmas.{IsPermutation-filter, all-append, all_both, filter-map}
-use Rattle.period_core.specs.OrderLaws.{values_eq}
 use Rattle.period_core.specs.Windows.{window_sees}
 use Rattle.period_core.specs.declared.row.PeriodRow.{PeriodRow}
 use Rattle.period_core.specs.declared.value.Value.{Value}
@@ -31,13 +30,15 @@ use Rattle.history_model.specs.Histories.{History}
 use Rattle.history_model.specs.OrdinaryQuery.{VisibleInHistory, InCombined, InProduct, InQuery, VisibleInTables, meets_all}
 use Rattle.history_model.specs.Versions.{row_of}
 use Rattle.sequenced_ops.specs.Planning.{IsPruned}
-use Rattle.period_keys.specs.FixedKeys.{FixesKeyWithin}
+use Rattle.period_keys.specs.declared.key_range.KeyRange.{KeyRange}
+use Rattle.period_keys.specs.FixedKeys.{IsRangeWithin}
 use Rattle.period_keys.specs.Keys.{values_at}
 use Rattle.period_keys.specs.Rows.{RowsByKey}
-use Rattle.period_keys.specs.Versions.{is_of_key, version_key}
+use Rattle.period_keys.specs.Ranges.{is_in_range}
+use Rattle.period_keys.specs.Versions.{has_key_in}
 use Rattle.period_keys.proofs.Members.{from_filter, from_map, in_filter, in_map}
 use Rattle.version_store.specs.Contents.{Contents, TableVersion, of_table, version_in}
-use Rattle.version_store.specs.GoodStore.{AreGood, IsGoodVersion, NothingMore}
+use Rattle.version_store.specs.GoodStore.{AreGood, IsGoodVersion, NoExtraCondition}
 use Rattle.version_store.specs.RowValues.{are_of_columns, is_of_column}
 use Rattle.version_store.specs.Scans.{seen_of}
 use Rattle.ended_versions.specs.Packed.{seen_through}
@@ -52,7 +53,7 @@ use Rattle.script_engine.proofs.Seen.{current_seen, sees_rows}
 abbrev Conditions : Type 0
 Conditions = List (Tree CompareValues)
 
--- ---- how many values rows have
+-- ---- the width of rows
 
 values_long : (columns : List (ℕ × Column)) (values : List Value) → are_of_columns columns values ≡ true → length values ≡ length columns
 values_long [] [] h = refl
@@ -69,11 +70,11 @@ each_in P (y ∷ ys) all x among = elim (Contains-cons_cases y ys x among) [
   | inr later ↦ each_in P ys all.1 x later
 ]
 
--- the table of this number has so many value columns, if it is there
+-- the table of this number has so many value columns, if it exists
 abbrev pub IsWidth : List TableDef → ℕ → ℕ → Type 0
 IsWidth tables number width = (d : TableDef) → table_of tables number ≡ Some d → width ≡ length (value_columns d)
 
-module _ (c : Contents) (number width : ℕ) (good : AreGood NothingMore c) (wide : IsWidth c.tables number width) where
+module _ (c : Contents) (number width : ℕ) (good : AreGood NoExtraCondition c) (wide : IsWidth c.tables number width) where
   good_width : (v : VersionRow) → Contains c.versions (version_in number v) → length v.values ≡ width
   good_width v among =
       let is = each_in (IsGoodVersion c.tables c.clock) c.versions good.versions (version_in number v) among in
@@ -117,7 +118,7 @@ module _ (history : History) (c : Contents) (reference : QueryReference) (said :
       } in
       sees_rows history c reference (map row_of shown_rows) said are
 
-  -- they are as many as its value columns
+  -- values that the reference sees are as many as its value columns
   pub sees_width : (width : ℕ) → IsWidth c.tables reference.table width → SeesWidth history reference width
   sees_width width wide day values sees =
       let (row, among, same, on) = held (map row_of shown_rows) day values ((shown_seen.daily day values).1 sees) in
@@ -139,7 +140,7 @@ module _ (history : History) (c : Contents) (reference : QueryReference) (said :
       (each_among (λ (row : PeriodRow). has_kinds reference.kinds row.values ≡ true) rows
       (λ row among. sees_kinds known row.period.start row.values (needed.sound row.period.start row.values (InSnapshot-start rows row among))))
 
--- ---- what is needed of one reference
+-- ---- the needed rows of one reference
 
 pruned_along : (conjuncts : Conditions) (start : ℕ) (A B : ℤ → List Value → Type 0) (rows : List PeriodRow) → ((day : ℤ) (values : List Value) → (A day values ↔ B day values)) → IsPruned conjuncts start A rows → IsPruned conjuncts start B rows
 pruned_along conjuncts start A B rows same pruned = record {
@@ -155,36 +156,28 @@ current_needed history c tables conjuncts start reference rows said current now 
     let seen : AreRowsSeen c reference.table reference.window all = subst (λ (w : Window). AreRowsSeen c reference.table w all) (sym now) (current_seen c tables reference.table all current refl) in
     pruned_along conjuncts start (InSnapshot all) (λ day. VisibleInHistory history day reference) rows (sees_rows history c reference all said seen).daily pruned
 
--- all that it sees
-pub whole_needed : (history : History) (conjuncts : Conditions) (start : ℕ) (reference : QueryReference) (rows : List PeriodRow) → SeesRows history reference rows → IsNeeded history conjuncts start reference rows
-whole_needed history conjuncts start reference rows sees = record {
-  sound = λ day values h. (sees.daily day values).0 h;
-  complete = λ day first values rest e h met. (sees.daily day values).1 h;
-}
+-- the versions of the keys that the conditions leave
+module _ (conjuncts : Conditions) (start width : ℕ) (positions : List ℕ) (range : KeyRange) (versions : List VersionRow) (rows : List PeriodRow) where
+  abbrev ranged : List VersionRow
+  ranged = filter (has_key_in positions range) versions
 
--- those of the key that the conditions fix
-module _ (conjuncts : Conditions) (start width : ℕ) (positions : List ℕ) (key : List Value) (versions : List VersionRow) (rows : List PeriodRow) where
-  abbrev keyed : List VersionRow
-  keyed = filter (is_of_key positions key) versions
-
-  pub key_needed : FixesKeyWithin conjuncts start width positions key → ((v : VersionRow) → Contains versions v → length v.values ≡ width) → IsPruned conjuncts start (InSnapshot (map row_of keyed)) rows →
+  pub ranged_needed : IsRangeWithin conjuncts start width positions range → ((v : VersionRow) → Contains versions v → length v.values ≡ width) → IsPruned conjuncts start (InSnapshot (map row_of ranged)) rows →
       IsPruned conjuncts start (InSnapshot (map row_of versions)) rows
-  key_needed fixes widths pruned = record {
+  ranged_needed within widths pruned = record {
     sound = λ day values h.
-        let (row, among, same, on) = held (map row_of keyed) day values (pruned.sound day values h) in
-        let (v, its, made) = from_map row_of keyed row among in
+        let (row, among, same, on) = held (map row_of ranged) day values (pruned.sound day values h) in
+        let (v, its, made) = from_map row_of ranged row among in
         in_snapshot (map row_of versions) day values
-        (row, subst (Contains (map row_of versions)) made (in_map row_of versions v (from_filter (is_of_key positions key) versions v its).0), same, on);
+        (row, subst (Contains (map row_of versions)) made (in_map row_of versions v (from_filter (has_key_in positions range) versions v its).0), same, on);
     complete = λ day first values rest e h met.
         let (row, among, same, on) = held (map row_of versions) day values h in
         let (v, its, made) = from_map row_of versions row among in
         let its_values : v.values ≡ values = ap (λ (r : PeriodRow). r.values) made ∙ same in
         let long : length values ≡ width = sym (ap length its_values) ∙ widths v its in
-        let its_key : version_key positions v ≡ key = ap (values_at positions) its_values ∙ fixes first values rest e long met in
-        let of_key : is_of_key positions key v ≡ true = (values_eq key (version_key positions v)).1 (sym its_key) in
+        let its_key : has_key_in positions range v ≡ true = ap (λ (vs : List Value). is_in_range range (values_at positions vs)) its_values ∙ within first values rest e long met in
         pruned.complete day first values rest e
-        (in_snapshot (map row_of keyed) day values
-        (row, subst (Contains (map row_of keyed)) made (in_map row_of keyed v (in_filter (is_of_key positions key) versions v its of_key)), same, on)) met;
+        (in_snapshot (map row_of ranged) day values
+        (row, subst (Contains (map row_of ranged)) made (in_map row_of ranged v (in_filter (has_key_in positions range) versions v its its_key)), same, on)) met;
   }
 
 -- ---- lists in their places
@@ -218,7 +211,7 @@ query_as_many history (both operator left right) lists (first, second, split, a,
     let there = length-append (references_of left) (references_of right) in
     ap length split ∙ omega (arith, one_side, other, here, there)
 
--- places that count up, of the first references and of those behind them
+-- places that count up, of the first references and of those after them
 placed_parts : (place : ℕ) (xs ys : List QueryReference) → are_in_place place (xs ++ ys) ≡ true → (are_in_place place xs ≡ true) × (are_in_place (place + length xs) ys ≡ true)
 placed_parts place [] ys h = (refl, subst (λ (n : ℕ). are_in_place n ys ≡ true) (omega arith) h)
 placed_parts place (x ∷ xs) ys h =
@@ -260,7 +253,7 @@ query_placed history (both operator left right) before lists behind in_place (fi
           (query_placed history right (before ++ first) second behind (subst (λ (n : ℕ). are_in_place n (references_of right) ≡ true) long later) b),
     )
 
--- ---- what a query gives of them
+-- ---- the answer of a query over needed rows
 
 module _ (tables : List (List PeriodRow)) (history : History) (day : ℤ) where
   -- rows that are there are seen
@@ -306,7 +299,7 @@ module _ (tables : List (List PeriodRow)) (history : History) (day : ℤ) where
       combined_alike operator (InQuery (VisibleInTables tables day) left) (InQuery (VisibleInTables tables day) right) (InQuery (VisibleInHistory history day) left) (InQuery (VisibleInHistory history day) right)
       (given_alike left a) (given_alike right b) row
 
--- where the lists fit the query, it gives on each day what it gives in the history
+-- a query gives of needed lists that fit it, on each day, what it gives in the history
 pub needed_alike : (history : History) (query : Query) (tables : List (List PeriodRow)) → fits query tables ≡ true → IsNeededBy history query tables → (day : ℤ) (row : List Value) →
     (InQuery (VisibleInTables tables day) query row ↔ InQuery (VisibleInHistory history day) query row)
 needed_alike history query tables fit needed day row =
@@ -328,7 +321,7 @@ query_kinds history c tables (one select) said needed = kinds_placed history c t
 query_kinds history c tables (both operator left right) said (a, b) =
     all-append (λ (r : QueryReference). IsKnown c.tables r → sees_its_kinds tables r ≡ true) (references_of left) (references_of right) (query_kinds history c tables left said a) (query_kinds history c tables right said b)
 
--- what a query of the catalog needs in a history fits it
+-- lists that a query of the catalog needs in a history fit the query
 pub needed_fits : (history : History) (c : Contents) (query : Query) (tables : List (List PeriodRow)) → AreOfHistory history c → IsOfCatalog c.tables query → IsNeededBy history query tables → fits query tables ≡ true
 needed_fits history c query tables said known needed =
     let references = references_of query in
@@ -345,7 +338,7 @@ pub added_none : (history : History) (conjuncts : Conditions) (start : ℕ) (ref
 added_none history conjuncts start references lists none =
     ([], sym (append-nil lists), subst (λ (rs : List QueryReference). SeeNeeded history conjuncts start rs []) (sym none) tt)
 
--- a reference's list, and behind it those of the others
+-- a reference's list, and after it those of the others
 pub added_more : (history : History) (conjuncts : Conditions) (start next width : ℕ) (references more : List QueryReference) (reference : QueryReference) (rows : List PeriodRow) (lists pushed new : List (List PeriodRow)) → references ≡ reference ∷ more →
     IsNeeded history conjuncts start reference rows → SeesWidth history reference width → next ≡ start + width → pushed ≡ lists ++ rows ∷ [] → AddNeeded (SeeNeeded history conjuncts next more) pushed new → AddNeeded (SeeNeeded history conjuncts start references) lists new
 added_more history conjuncts start next width references more reference rows lists pushed new split needs wide next_is pushed_is (added, made, others) = (

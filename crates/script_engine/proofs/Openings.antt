@@ -10,7 +10,7 @@ use Rattle.period_core.specs.declared.version.VersionRow.{VersionRow}
 use Rattle.catalog_core.specs.declared.table.TableDef.{TableDef}
 use Rattle.catalog_core.specs.table.TableWords.{table_of}
 use Rattle.version_store.specs.Contents.{Contents, TableVersion, of_table, version_in}
-use Rattle.version_store.specs.GoodStore.{AreGood, HaveTables, IsGoodStore, IsGoodVersion, IsGoodVersionIn, NothingMore}
+use Rattle.version_store.specs.GoodStore.{AreGood, HaveTables, IsGoodStore, IsGoodVersion, IsGoodVersionIn, NoExtraCondition}
 use Rattle.version_store.specs.Units.{in_microseconds}
 use Rattle.version_store.proofs.Units.{good_contents, tables_in}
 use Rattle.sqlite.specs.Effect as sqlite
@@ -49,7 +49,7 @@ module _ (tables : List TableDef) (clock : ℤ) where
           (row tables clock v good.0 ∷ rows, ap (λ (l : List TableVersion). v ∷ l) same ∙ ap (λ (n : ℕ). record v { table = n } ∷ map (version_in table) rows) at)
       go false off rows = rows
 
-  -- those of the tables from a number on
+  -- the lists of the tables from a number on
   pub record Lists (versions : List TableVersion) (from count : ℕ) : Type 0 where
     pub lists : List (List VersionRow)
     pub long : length lists ≡ count
@@ -75,7 +75,7 @@ module _ (tables : List TableDef) (clock : ℤ) where
           let same : suc from + place ≡ from + suc place = omega arith in
           subst (λ (n : ℕ). of_table (suc n) versions ≡ map (version_in (suc n)) (get_or more.lists place [])) same (more.each place (omega arith))
 
-  -- no version is of a table that is not there
+  -- no version is of a table that is missing
   of_none : (table : ℕ) (v : TableVersion) → table_of tables table ≡ None → IsGoodVersion tables clock v → (v.table == table) ≡ false
   of_none table v none good = go (v.table == table) refl
     where
@@ -101,7 +101,7 @@ nothing_beyond (list ∷ lists) zero out = absurd (out (omega arith))
 nothing_beyond (list ∷ lists) (suc place) out = nothing_beyond lists place (λ inside. out (omega arith))
 
 -- the opening that good contents are
-module _ (c : Contents) (are_good : AreGood NothingMore c) where
+module _ (c : Contents) (are_good : AreGood NoExtraCondition c) where
   abbrev good : AllByRecursion (IsGoodVersion c.tables c.clock) c.versions
   good = are_good.versions
 
@@ -156,18 +156,18 @@ module _ (c : Contents) (are_good : AreGood NothingMore c) where
         (lawful_along c.tables (current_state c) (last_state (opened opening)) (λ table day. state_said (opened opening) c table day left-opened) lawful);
   }
 
--- its contents, in microseconds
+-- the contents of a good store, in microseconds
 abbrev pub its_contents : {Constrained : Contents → Type 0} {db : sqlite.Database} → IsGoodStore Constrained db → Contents
 its_contents good = in_microseconds good.form good.contents
 
--- its versions are of its tables
-pub good_tables : {db : sqlite.Database} (good : IsGoodStore NothingMore db) → HaveTables (its_contents good)
+-- the versions of a good store are of its tables
+pub good_tables : {db : sqlite.Database} (good : IsGoodStore NoExtraCondition db) → HaveTables (its_contents good)
 good_tables good =
     let c = good.contents in
     tables_in good.form c (all_weaker (IsGoodVersionIn good.form c.tables c.clock) (λ (v : TableVersion). (d : TableDef) × (table_of c.tables v.table ≡ Some d)) (λ v is. (is.definition, is.table)) c.versions good.versions)
 
 -- with point 6 judged, all points hold
-pub all_points : {db : sqlite.Database} (good : IsGoodStore NothingMore db) → AreConstrained (its_contents good) → IsGoodStore AreConstrained db
+pub all_points : {db : sqlite.Database} (good : IsGoodStore NoExtraCondition db) → AreConstrained (its_contents good) → IsGoodStore AreConstrained db
 all_points good lawful = record {
   form = good.form;
   contents = good.contents;
@@ -183,7 +183,7 @@ all_points good lawful = record {
 }
 
 -- without it the others do
-abbrev pub other_points : {db : sqlite.Database} → IsGoodStore AreConstrained db → IsGoodStore NothingMore db
+abbrev pub other_points : {db : sqlite.Database} → IsGoodStore AreConstrained db → IsGoodStore NoExtraCondition db
 other_points good = record {
   form = good.form;
   contents = good.contents;
@@ -198,19 +198,19 @@ other_points good = record {
   constrained = tt;
 }
 
--- its contents are good, with keys and references
+-- the contents of a constrained store are good, with keys and references
 pub good_and_lawful : {db : sqlite.Database} (good : IsGoodStore AreConstrained db) → AreGood AreConstrained (its_contents good)
 good_and_lawful good = let fine = good_contents (other_points good) in record { clock = fine.clock; few = fine.few; lawful = fine.lawful; versions = fine.versions; constrained = good.constrained }
 
 -- so a good store is one of the history to which nothing was done since it was opened
-pub good_history : {S : Type 0} (g : Ghosts S) (engine : EngineState S) (db : sqlite.Database) (good : IsGoodStore NothingMore db) → AreConstrained (its_contents good) → HasContents g engine (its_contents good) →
+pub good_history : {S : Type 0} (g : Ghosts S) (engine : EngineState S) (db : sqlite.Database) (good : IsGoodStore NoExtraCondition db) → AreConstrained (its_contents good) → HasContents g engine (its_contents good) →
     (history : History) × EngineRepresents g history engine
 good_history g engine db good lawful has =
     let c = its_contents good in
     let fine = good_contents good in
     (opened (opening c fine), record { contents = c; stored = has.stored; said = said-opened c fine lawful; current = has.current; ended = has.ended })
 
--- what a history says is good, with keys and references
+-- the contents that a history says are good, with keys and references
 pub constrained_good : (history : History) (c : Contents) → AreOfHistory history c → AreGood AreConstrained c
 constrained_good history c said = record {
   clock = said.good.clock;

@@ -1,11 +1,11 @@
--- What statements do over an engine, whatever its database holds.
+-- Statements over an engine, whatever its database holds.
 use Rattle.std.proofs.Common.{◌≡◌, Ok, Err, refl, subst, sym}
 use Rattle.period_core.specs.Leasts.{NoneApplies}
 use Rattle.period_core.specs.declared.refusal.Refusal.{Refusal}
 use Rattle.sql_statements.specs.Trees.{Statement}
 use Rattle.sql_statements.specs.Trees as statement
 use Rattle.sqlite.specs.Store.{Ghosts}
-use Rattle.catalog_core.specs.change.Resolution.{IsChange}
+use Rattle.statement_resolution.specs.change.Resolution.{IsChange}
 use Rattle.version_store.specs.StoreState.{StaysOnErr}
 use Rattle.script_engine.specs.engine.EngineState.{EngineState}
 use Rattle.script_engine.specs.engine.InMemory.{IsSameInMemory}
@@ -15,7 +15,7 @@ use Rattle.script_engine.specs.engine.Stored.{WasUsable}
 use Rattle.statement_reports.specs.declared.outcome.Outcome.{Outcome}
 use Rattle.script_engine.proofs.SameInMemory.{same_memory}
 
--- where every other statement leaves the catalog and the clock, so does a change
+-- a change leaves the catalog and the clock, as every other statement does
 pub change_follows : {S : Type 0} (old new : EngineState S) (s : Statement) → IsChange s → IsAsDefined old new → Follows old s new
 change_follows old new (statement.insert i) is same = same
 change_follows old new (statement.update u) is same = same

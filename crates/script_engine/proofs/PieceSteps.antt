@@ -26,7 +26,7 @@ pub stated_piece : {S : Type 0} (g : Ghosts S) (history : History) (piece : List
     RepresentsSome g (PieceStep history piece result) engine
 stated_piece g history piece s result engine none spelled (new, step, kept) = (new, inr (s, none, spelled, step), kept)
 
--- the same, where its answer is audited
+-- the step of a piece whose answer is audited
 pub audited_piece : {S : Type 0} (g : Ghosts S) (history : History) (piece : List Lexeme) (s : Statement) (entry : Entry) (engine : EngineState S) → NoneApplies (TextApplies piece) → IsStatement piece s → AuditedStepsTo g history s entry engine →
     RepresentsSome g (AuditedPieceStep history piece entry) engine
 audited_piece g history piece s entry engine none spelled (new, step, kept) = (new, inr (s, none, spelled, step), kept)
@@ -40,7 +40,7 @@ module _ {H R : Type 0} (IsStep : H → List Lexeme → R → H → Type 0) wher
   run_more old (first ∷ pieces) [] middle piece result new none step = absurd none
   run_more old (first ∷ pieces) (its ∷ results) middle piece result new (next, here, rest) step = (next, here, run_more next pieces results middle piece result new rest step)
 
-  -- the same, for the next of the spans of a list of tokens
+  -- the step of the next of the spans of a list of tokens
   pub run_next : (old : H) (script : List ℕ) (tokens : List TokenSpan) (spans : List Span) (i : ℕ) (d : Span) (results more : List R) (middle : H) (result : R) (new : H) →
       i < length spans → more ≡ results ++ result ∷ [] → StepPieces IsStep old (map (spanned (lexemes_at script tokens)) (take i spans)) results middle →
       IsStep middle (lexemes_at script (take ((get_or spans i d).end - (get_or spans i d).start) (drop (get_or spans i d).start tokens))) result new →
@@ -66,7 +66,7 @@ kept_run g result_of opening script kept all = record {
 }
 
 -- the results of an audited run are those of a run
-unaudited_piece : (history : History) (piece : List Lexeme) (entry : Entry) (new : History) → AuditedPieceStep history piece entry new → PieceStep history piece entry.result new
+pub unaudited_piece : (history : History) (piece : List Lexeme) (entry : Entry) (new : History) → AuditedPieceStep history piece entry new → PieceStep history piece entry.result new
 unaudited_piece history piece entry new (inl (refusal, is, may, same)) = inl (refusal, ap (λ (e : Entry). e.result) is, may, same)
 unaudited_piece history piece entry new (inr (s, none, spelled, audited)) = inr (s, none, spelled, audited.step)
 

@@ -49,7 +49,7 @@ pub current_listed : (table : ℕ) (versions : List TableVersion) (rows listed :
     IsPermutation (current rows) listed
 current_listed table versions rows listed all are = seen_rows table Now versions rows listed all are
 
--- ---- which versions end
+-- ---- the versions that end
 
 -- the version is current, and the action touches it
 abbrev pub is_hit : Action → VersionRow → Bool
@@ -64,14 +64,14 @@ filtered_twice {X} p q (x ∷ xs) = go (p x) (filtered_twice p q xs)
     go true e = ap (λ l. cond (q x) (x ∷ l) l) e
     go false e = e
 
--- those that the action touches end
+-- the versions that the action touches end
 pub hits_end : (action : Action) (rows listed : List VersionRow) (plan : Plan) → IsPermutation (current rows) listed → Plans action listed plan → IsPermutation (filter (is_hit action) rows) plan.ended
 hits_end action rows listed plan are plans =
     subst (IsPermutation (filter (is_hit action) rows)) (sym plans.ended)
     (subst (λ l. IsPermutation l (filter (λ (v : VersionRow). touches action (version_row v)) listed)) (filtered_twice (λ (v : VersionRow). window_sees Now v.from v.to) (λ (v : VersionRow). touches action (version_row v)) rows)
     (IsPermutation-filter (λ (v : VersionRow). touches action (version_row v)) (current rows) listed are))
 
--- ---- what is counted
+-- ---- the count of an action
 
 touched_count : (action : Action) (rows listed : List VersionRow) (versions : List PlainVersion) (plan : Plan) → IsPermutation (current rows) listed → Plans action listed plan → IsPermutation (map plain_version rows) versions →
     length (touched_rows action versions) ≡ length plan.ended

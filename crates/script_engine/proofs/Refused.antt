@@ -1,4 +1,4 @@
--- Which refusals a statement may get, from those that its parts give.
+-- The refusals that a statement may get, from those that its parts give.
 use Rattle.std.proofs.Common.{◌≡◌, ◌≤◌, ◌++◌, ◌∷◌, ◌⊎◌, ℕ, Bool, true, false, List, [], map, refl, sym, ◌∙◌, ap, subst, inl, inr, nat_le, arith}
 use Rattle.std.proofs.lemmas.Int.{ints}
 use Rattle.std.specs.List.{list_all, list_any}
@@ -9,7 +9,7 @@ use Rattle.period_core.specs.declared.refusal.Refusal.TheVariants.{EmptyPeriod, 
 use Rattle.period_core.specs.declared.row.PeriodRow.{PeriodRow}
 use Rattle.period_core.specs.declared.version.VersionRow.{VersionRow}
 use Rattle.catalog_core.specs.RefusalConditions.{Holds, RefusalCondition}
-use Rattle.catalog_core.specs.change.Resolution.{has_empty_row, is_empty_row}
+use Rattle.catalog_core.specs.change.EmptyRows.{has_empty_row, is_empty_row}
 use Rattle.history_model.specs.Portions.{PlainRow, plain_given, plain_row}
 use Rattle.portion_dml.specs.Plans.{Plans}
 use Rattle.catalog_core.specs.declared.change.Action.{Action}
@@ -68,7 +68,7 @@ days-planned (Insert given) listed plan plans = days-given given plan.added (row
 days-planned (Update portion assignments condition) listed plan plans = refl
 days-planned (Delete portion condition) listed plan plans = refl
 
--- what may be answered by the conditions alone may be answered where that of an empty period stands behind them
+-- an answer by the conditions alone is one also if that of an empty period follows them
 pub may_answer-before : (conditions : List RefusalCondition) (holds : Bool) (refusal : Refusal) → are_at_most 41 conditions ≡ true → MayAnswer (Holds conditions) refusal → MayAnswer (Holds (conditions ++ (EmptyPeriod, holds) ∷ [])) refusal
 may_answer-before conditions holds refusal low (inr memory) = inr memory
 may_answer-before conditions holds refusal low (inl least) = inl (record {
@@ -83,7 +83,7 @@ may_answer-before conditions holds refusal low (inl least) = inl (record {
       ];
 })
 
--- that of an empty period is answered where it holds and none of the others does
+-- an empty period is answered if its condition holds and none of the others does
 pub may_answer-empty : (conditions : List RefusalCondition) (holds : Bool) → NoneApplies (Holds conditions) → holds ≡ true → MayAnswer (Holds (conditions ++ (EmptyPeriod, holds) ∷ [])) EmptyPeriod
 may_answer-empty conditions holds none held = inl (record {
   applies = holds_after conditions ((EmptyPeriod, holds) ∷ []) EmptyPeriod (inl (refl, held));
@@ -102,7 +102,7 @@ pub failed_query : {S : Type 0} (g : Ghosts S) (old new : EngineState S) (s : St
 failed_query g old new s refusal (inl memory) = inl (inr memory)
 failed_query g old new s refusal (inr fault) = inr fault
 
--- one that is a failure of the store comes of a fault
+-- one that is a failure of the store is due to a fault
 pub by_fault : {S : Type 0} (g : Ghosts S) (old new : Held S) (refusal : Refusal) → IsFailure g old new refusal → refusal ≡ Store → HasFault (state g old) (state g new)
 by_fault g old new refusal (inl memory) told = let no : Store ≡ Memory = sym told ∙ memory in absurd cc
 by_fault g old new refusal (inr fault) told = fault

@@ -1,4 +1,4 @@
--- What the calls that resolve each form of change give.
+-- The calls that resolve each form of change, and their results.
 use Rattle.std.proofs.Common.{◌≡◌, false, List, Err, Ok, Result, refl}
 use Rattle.std.specs.Prelude.{IfErr, IfOk, OnOk}
 use Rattle.period_core.specs.Leasts.{MayAnswer, NoneApplies}
@@ -7,9 +7,10 @@ use Rattle.sql_statements.specs.declared.statement.InsertRows.{InsertRows}
 use Rattle.sql_statements.specs.Trees.{Delete, Update}
 use Rattle.sql_statements.specs.Trees as statement
 use Rattle.catalog_core.specs.RefusalConditions.{Holds}
-use Rattle.catalog_core.specs.change.Insertion.{gives_empty_row, insert_conditions}
-use Rattle.catalog_core.specs.change.PortionChanges.{DeletesAs, ResolvesDelete, ResolvesUpdate, UpdatesAs, delete_conditions, update_conditions}
-use Rattle.catalog_core.specs.change.Resolution.{ResolvesAction, ResolvesInsert, has_empty_row}
+use Rattle.statement_resolution.specs.change.Insertion.{gives_empty_row, insert_conditions}
+use Rattle.statement_resolution.specs.change.PortionChanges.{DeletesAs, ResolvesDelete, ResolvesUpdate, UpdatesAs, delete_conditions, update_conditions}
+use Rattle.statement_resolution.specs.change.Resolution.{ResolvesAction, ResolvesInsert}
+use Rattle.catalog_core.specs.change.EmptyRows.{has_empty_row}
 use Rattle.catalog_core.specs.declared.change.Action.{Action}
 use Rattle.catalog_core.specs.declared.change.Action.TheVariants as action
 use Rattle.catalog_core.specs.declared.change.Change.{Change}

@@ -14,8 +14,8 @@ use Rattle.temporal_model.proofs.Members.{Contains-here, Contains-one}
 use Rattle.temporal_model.proofs.Snapshots.{held, in_snapshot}
 use Rattle.sql_statements.specs.Trees.{Delete}
 use Rattle.sql_statements.specs.Trees as statement
-use Rattle.catalog_core.specs.change.PortionChanges.{lacks_named}
-use Rattle.catalog_core.specs.change.Resolution.{change_conditions, empty_period}
+use Rattle.statement_resolution.specs.change.PortionChanges.{lacks_named}
+use Rattle.statement_resolution.specs.change.Resolution.{change_conditions, empty_period}
 use Rattle.catalog_core.specs.table.TableWords.{number_of, table_of_name}
 use Rattle.catalog_core.proofs.lemmas.judged.Least.{first_least}
 use Rattle.history_model.specs.Histories.{new_database, opened}
@@ -24,7 +24,7 @@ use Rattle.script_engine.specs.engine.Runs.{MayRefuseMoment, Step}
 
 -- ---- a refused statement
 
--- a DELETE from a table that is not there is refused by 23, and the history stays
+-- a DELETE from a table that is missing is refused by 23, and the history stays
 no_table : (rows : Delete) → Step (opened new_database) (statement.delete rows) (Err UnknownTable) (opened new_database)
 unfolding lacks_named number_of table_of_name
 no_table rows = (

@@ -1,4 +1,4 @@
--- What a refusal leaves in memory, and what a statement may be refused with over it, whatever the database holds.
+-- The memory after a refusal, and the refusals that a statement may get over it, whatever the database holds.
 use Rattle.std.proofs.Common.{◌≡◌, ◌≤◌, ◌<ℤ◌, ◌≤ℤ◌, ◌∙◌, ℕ, ℤ, Bool, true, false, List, ap, inl, inr, nat_eq, refl, sym, subst, arith}
 use Rattle.std.specs.Prelude.{int_lt}
 use Rattle.std.specs.List.Sorted.{IsPermutation}
@@ -22,12 +22,12 @@ use Rattle.script_engine.specs.engine.InMemory.{HaveRows, IsSameInMemory, rows_i
 use Rattle.script_engine.specs.engine.Runs.{AppliesOver, MayRefuseMoment, MayRefuseOver}
 use Rattle.script_engine.proofs.Steps.{may_refuse-store}
 
--- ---- what is in memory
+-- ---- an engine's memory
 
 pub same_memory : {S : Type 0} (engine : EngineState S) → IsSameInMemory engine engine
 same_memory engine = record { catalog = refl; clock = refl; rows = λ number. IsPermutation-refl (rows_in engine.tables number); ended = refl }
 
--- where the rows of a table are the same in another order
+-- the rows of a table, in another order
 pub rows_memory : {S : Type 0} (old new : EngineState S) (table : ℕ) → new.catalog ≡ old.catalog → new.clock ≡ old.clock → HaveRows table (rows_in old.tables table) old.tables new.tables → new.ended ≡ old.ended → IsSameInMemory old new
 rows_memory old new table catalog clock same closed = record {
   catalog = ap (λ (k : Catalog). k.tables) catalog;
@@ -44,7 +44,7 @@ rows_memory old new table catalog clock same closed = record {
         let away : number ≡ table → ⊥ = λ is. let here : nat_eq number table ≡ true = grind (arith, nat_tests, is) in cc in
         subst (λ (l : List VersionRow). IsPermutation (rows_in old.tables number) l) (sym (same.others number away)) (IsPermutation-refl (rows_in old.tables number))
 
--- where they are the same list
+-- the tables, as the old list
 pub list_memory : {S : Type 0} (old new : EngineState S) → new.catalog.tables ≡ old.catalog.tables → new.clock ≡ old.clock → new.tables ≡ old.tables → new.ended ≡ old.ended → IsSameInMemory old new
 list_memory old new catalog clock tables closed = record {
   catalog = catalog;
@@ -53,10 +53,10 @@ list_memory old new catalog clock tables closed = record {
   ended = closed;
 }
 
--- ---- what may be refused
+-- ---- refusals over a catalog and a clock
 
 module _ (tables : List TableDef) (clock : ℤ) where
-  -- a failure, where no condition holds
+  -- a failure, if no condition holds
   pub failed_over : (s : Statement) (refusal : Refusal) → NoneApplies (AppliesOver tables clock s) → IsStoreRefusal refusal → MayRefuseOver tables clock s refusal
   failed_over s refusal none failure = inl (may_refuse-store (AppliesOver tables clock s) refusal failure none)
 

@@ -28,8 +28,8 @@ use Rattle.sql_front.proofs.Parsing.{no_statement, spelled_some}
 use Rattle.sql_front.proofs.PieceFaults.{piece_none}
 use Rattle.sql_front.proofs.Spelling.{none_if_unread, spelled_if_read}
 use Rattle.sql_front.proofs.StatementsRead.{read_spelled}
-use Rattle.catalog_core.specs.change.PortionChanges.{lacks_named}
-use Rattle.catalog_core.specs.stored.StoredQueries.{stored_conditions}
+use Rattle.statement_resolution.specs.change.PortionChanges.{lacks_named}
+use Rattle.statement_resolution.specs.stored.StoredQueries.{stored_conditions}
 use Rattle.catalog_core.specs.table.TableWords.{number_of, table_of_name}
 use Rattle.catalog_core.proofs.lemmas.judged.Least.{first_least}
 use Rattle.history_model.specs.Histories.{new_database, opened}
@@ -59,7 +59,7 @@ sound_if_read n left ts s read short shallow date moment number =
 abbrev script_text : List ℕ
 script_text = codes "SELECT * FROM T;a"
 
--- its semicolon
+-- the semicolon of the example
 abbrev semicolon : Lexeme
 semicolon = record { kind = Symbol; text = codes ";"; start = 15; end = 16 }
 
@@ -72,11 +72,11 @@ lookup =
     ∷ record { kind = Word; text = codes "T"; start = 14; end = 15 }
     ∷ []
 
--- the token behind it
+-- the token after it
 abbrev letter : List Lexeme
 letter = record { kind = Word; text = codes "a"; start = 16; end = 17 } ∷ []
 
--- these are its tokens; what stands between them is white space
+-- the tokens of the example; only white space is between them
 lexed : lexis.TokensOf script_text (lookup ++ semicolon ∷ letter)
 unfolding first_lexeme
 lexed =
@@ -98,7 +98,7 @@ cut = record {
 abbrev looked_up : Statement
 looked_up = stored (record { table = codes "T"; window = None; condition = None })
 
--- its tokens are read as this statement, and so spell it
+-- the tokens are read as this statement, and so spell it
 lookup_is_read : whole_read (statement_read 0) lookup ≡ Some looked_up
 unfolding statement_read later_statement_read query_statement_read stored_read stored_table_read for_window_read where_read name_read is_plain_word is_reserved
 lookup_is_read = refl
@@ -121,7 +121,7 @@ letter_shallow : IsTooDeep letter → ⊥
 unfolding room
 letter_shallow = some_shallow 32 letter 32 refl
 
--- what may be answered of a piece for its spelling may be answered of one that is not overlong
+-- an answer for the spelling of a piece that is not overlong is one for the piece
 of_text : (piece : List Lexeme) (refusal : Refusal) → (IsOverlong piece → ⊥) → MayAnswer (PieceApplies piece) refusal → MayAnswer (TextApplies piece) refusal
 of_text piece refusal short (inr memory) = inr memory
 of_text piece refusal short (inl least) = inl (record {
@@ -147,7 +147,7 @@ unfolding lacks_named number_of table_of_name
 lookup_step =
     inr (looked_up, lookup_sound, lookup_spelled, (inl (inl (first_least (stored_conditions [] looked_up) UnknownTable (lit≤ tt, (lit≤ tt, (lit≤ tt, (lit≤ tt, (lit≤ tt, (lit≤ tt, tt)))))) refl)), refl))
 
--- and the second as it is where it is checked
+-- and the second as it is if it is checked
 run : IsRunOf script_text (Err UnknownTable ∷ Err Syntax ∷ [])
 run = record {
   pieces = lookup ∷ letter ∷ [];

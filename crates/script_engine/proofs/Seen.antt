@@ -1,4 +1,4 @@
--- What one table reference sees, as period rows: those of the versions that its window sees.
+-- One table reference sees, as period rows, those of the versions that its window sees.
 use Rattle.std.proofs.Common.{◌≡◌, ◌↔◌, ◌++◌, ◌∙◌, ℕ, ℤ, Bool, List, filter, map, refl, reverse, sym, ap, subst}
 use Rattle.std.proofs.lemmas.List.{map-append}
 use Rattle.std.proofs.lemmas.List.Elements.{filter-append}
@@ -30,7 +30,7 @@ use Rattle.script_engine.proofs.LastState.{recorded_rows, values_along}
 use Rattle.script_engine.proofs.PlanFacts.{filtered_twice, seen_rows}
 use Rattle.script_engine.proofs.Recorded.{recorded_of}
 
--- ---- what is kept is what the window sees
+-- ---- rows that are kept are what the window sees
 
 -- the current rows in memory
 pub current_seen : (c : Contents) (tables : List RowsByKey) (number : ℕ) (rows : List PeriodRow) → HaveCurrentRows c tables → rows ≡ map row_of (rows_in tables number) → AreRowsSeen c number Now rows
@@ -74,7 +74,7 @@ memory_seen c tables number list window rows current ended made =
       made = made ∙ sym (map-append row_of first (reverse second));
     }
 
--- ---- what the window sees is what the reference sees
+-- ---- rows that the window sees are what the reference sees
 
 abbrev holds_on : ℤ → PeriodRow → Bool
 holds_on day row = covers_day row.period.start row.period.end day

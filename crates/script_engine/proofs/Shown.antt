@@ -7,7 +7,7 @@ use Rattle.sqlite.specs.Store.{Ghosts}
 use Rattle.sql_statements.specs.Trees.{Statement}
 use Rattle.sql_statements.specs.Trees as statement
 use Rattle.catalog_core.specs.RefusalConditions.{Holds}
-use Rattle.catalog_core.specs.stored.StoredQueries.{ResolvesStoredQuery, stored_query_conditions}
+use Rattle.statement_resolution.specs.stored.StoredQueries.{ResolvesStoredQuery, stored_query_conditions}
 use Rattle.catalog_core.specs.table.TableWords.{table_of}
 use Rattle.catalog_core.specs.declared.stored.Stored.{Stored}
 use Rattle.catalog_core.specs.declared.table.TableDef.{TableDef}

@@ -24,15 +24,15 @@ use Rattle.catalog_core.specs.create.Definition.{declared_kind, declared_referen
 use Rattle.history_model.specs.Histories.{Queried, Changed, Created, History, last_state, new_database, opened, with_event}
 use Rattle.history_model.specs.Versions.{plain_version}
 use Rattle.version_store.specs.Contents.{version_cmp, version_in}
-use Rattle.catalog_core.specs.Flaws.{is_flawed_column, is_flawed_compare, is_flawed_period, is_flawed_test}
-use Rattle.catalog_core.specs.change.PortionChanges.{lacks_named}
-use Rattle.catalog_core.specs.stored.StoredQueries.{is_flawed_stored, stored_conditions}
-use Rattle.catalog_core.specs.change.Insertion.{wanted_names, given_names, lacks_table, lists_unknown, lists_ambiguous, repeats_column, is_system_name, some_system_name, lists_system, omits_column, has_row_of_other_length, has_other_count, is_of_other_kind, is_longer, is_too_long, is_faulty, gives_faulty_value, has_faulty_value, given_value, value_for, is_no_period, gives_no_period, has_no_period}
+use Rattle.statement_resolution.specs.Flaws.{is_flawed_column, is_flawed_compare, is_flawed_period, is_flawed_test}
+use Rattle.statement_resolution.specs.change.PortionChanges.{lacks_named}
+use Rattle.statement_resolution.specs.stored.StoredQueries.{is_flawed_stored, stored_conditions}
+use Rattle.statement_resolution.specs.change.Insertion.{wanted_names, given_names, lacks_table, lists_unknown, lists_ambiguous, repeats_column, is_system_name, some_system_name, lists_system, omits_column, has_row_of_other_length, has_other_count, is_of_other_kind, is_longer, is_too_long, is_faulty, gives_faulty_value, has_faulty_value, given_value, value_for, is_no_period, gives_no_period, has_no_period}
 use Rattle.catalog_core.specs.RefusalConditions.{Holds, RefusalCondition, first_holding}
 use Rattle.catalog_core.specs.table.Kinds.{kind_of_type, kind_of_column, same_kind, differ}
 use Rattle.catalog_core.specs.table.Matches.{is_matching, is_of_sort}
 use Rattle.catalog_core.specs.table.Naming.{Name, repeats}
-use Rattle.catalog_core.specs.change.Resolution.{change_conditions, empty_period}
+use Rattle.statement_resolution.specs.change.Resolution.{change_conditions, empty_period}
 use Rattle.catalog_core.specs.table.TableWords.{def_kind, is_value_column, number_of, table_of_name}
 use Rattle.catalog_core.specs.declared.change.Action.TheVariants.{Insert}
 use Rattle.catalog_core.specs.declared.change.Change.{Change}
@@ -47,7 +47,7 @@ use Rattle.script_engine.proofs.LawfulSteps.{HaveNoReferences, lawful_alone}
 use Rattle.catalog_core.specs.table.Naming.{matches_among, place_among, some_match_among}
 use Rattle.catalog_core.specs.table.Naming.{find_among}
 
--- where no condition is the first that holds, none does
+-- if no condition is the first that holds, none does
 pub none_if_no_first : (conditions : List RefusalCondition) → first_holding conditions ≡ None → NoneApplies (Holds conditions)
 none_if_no_first [] e refusal h = h
 none_if_no_first ((judged, true) ∷ more) e refusal h = cc
@@ -114,7 +114,7 @@ creation_is_sound : NoneApplies (StatementApplies at_first (statement.create cre
 unfolding matches_among period_matches some_match_among some_parent_match some_match has_sort sort_count exceeds_limits is_there lacks_parent names_other_period lacks_period lacks_name is_ambiguous is_shared repeats repeats_name is_no_value_column some_no_value keys_period_column lacks_one_of_each has_bad_period has_bad_system_period is_bad_type has_bad_column is_used_otherwise has_other_period is_at is_key_name is_named are_key names_no_key references_no_key is_bad_definition has_unequal_lists own_kind def_kind have_other_kinds names_other_kind references_other_kind is_matching is_of_sort number_of table_of_name kind_of_type kind_of_column same_kind differ find_among
 creation_is_sound = none_if_no_first (create_conditions [] creation) refl
 
--- the statement is accepted: it gives no rows, and the table is there from then on
+-- the statement is accepted: it gives no rows, and the table exists from then on
 pub created : Step at_first (statement.create creation) (Ok (Done word.Create 0)) with_table
 unfolding place_among declared_reference declared_kind number_of table_of_name
 created = (

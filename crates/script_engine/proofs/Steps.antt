@@ -28,7 +28,7 @@ use Rattle.script_engine.proofs.Contents.{is_left, said-advanced, said-created}
 use Rattle.script_engine.proofs.LastState.{nothing_beyond, state_said}
 use Rattle.script_engine.proofs.TableNumbers.{few_tables}
 
--- where no refusal applies, a failure of the database may be answered
+-- if no refusal applies, a failure of the database may be answered
 pub may_refuse-store : (Applies : Refusal → Type 0) (refusal : Refusal) → IsStoreRefusal refusal → NoneApplies Applies → MayRefuse Applies refusal
 may_refuse-store Applies refusal (inl memory) none = inl (inr memory)
 may_refuse-store Applies refusal (inr store) none = inr (store, λ other applies. absurd (none other applies))
@@ -51,11 +51,11 @@ by_condition history (statement.stored q) refusal may = may
 pub refused_step : {S : Type 0} (g : Ghosts S) (history : History) (engine : EngineState S) (s : Statement) (refusal : Refusal) → EngineRepresents g history engine → MayRefuse (StatementApplies history s) refusal → StepsTo g history s (Err refusal) engine
 refused_step g history engine s refusal kept may = (history, (by_condition history s refusal may, refl), kept)
 
--- what is represented after a refused call
+-- the history that is represented after a refused call
 pub still : {S : Type 0} (g : Ghosts S) (history : History) (old new : EngineState S) (kept : EngineRepresents g history old) → HasContents g new kept.contents → EngineRepresents g history new
 still g history old new kept has = record { contents = kept.contents; stored = has.stored; said = kept.said; current = has.current; ended = has.ended }
 
--- the database fails where no refusal applies
+-- the database fails if no refusal applies
 pub failed_step : {S : Type 0} (g : Ghosts S) (history : History) (old new : EngineState S) (s : Statement) (refusal : Refusal) (kept : EngineRepresents g history old) → HasContents g new kept.contents →
     IsStoreRefusal refusal → NoneApplies (StatementApplies history s) → StepsTo g history s (Err refusal) new
 failed_step g history old new s refusal kept has failure none =

@@ -1,4 +1,4 @@
--- What a stored query shows of the versions in memory, in order, is what it shows of all versions.
+-- A stored query shows of the versions in memory, in order, what it shows of all versions.
 use Rattle.std.proofs.Common.{◌≡◌, ◌++◌, ℕ, false, List, get_or, map, refl, reverse, subst}
 use Rattle.std.specs.Prelude.{◌+◌, IsSorted}
 use Rattle.std.specs.List.Sorted.{IsPermutation, IsSortedBy}
@@ -21,7 +21,7 @@ use Rattle.script_engine.specs.engine.VersionLists.{AreShownIn}
 use Rattle.script_engine.proofs.PlanFacts.{one_version}
 use Rattle.script_engine.proofs.ShownFacts.{below, seen_first, versions_sorted}
 
--- an order that goes on is at least as fine
+-- an order that continues is at least as fine
 front : (values start from rest : Ordering) → is_lt (ordering_then values (ordering_then start (ordering_then from rest))) ≡ false → is_lt (ordering_then values (ordering_then start from)) ≡ false
 front Less start from rest h = h
 front Greater start from rest h = refl
@@ -48,7 +48,8 @@ all_rows table versions rows memory all are =
     (IsPermutation-trans (map (version_in table) rows) (of_table table versions) (map (version_in table) memory)
     (IsPermutation-sym (of_table table versions) (map (version_in table) rows) all) are)
 
--- what the query shows of the current versions and, through its window, of those that have ended
+-- versions shown of the current ones and, through the window, of those that have ended, in order,
+-- are what the query shows of all
 pub shown_of_memory : (c : Contents) (query : Stored) (current ended shown : List VersionRow) → IsPermutation (of_table query.table c.versions) (map (version_in query.table) (current ++ ended)) →
     IsPermutation (shown_versions query current ++ shown_versions query (reverse (seen_through query.window ended))) shown → IsSorted rows.version_cmp shown → AreShownIn c query shown
 shown_of_memory c query current ended shown memory same sorted versions all =

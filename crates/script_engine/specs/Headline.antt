@@ -8,7 +8,7 @@ use Rattle.temporal_model.specs.Answer.{IsShortest, IsInAnswerOrder}
 use Rattle.temporal_model.specs.Witness.{WitnessEachRow}
 
 -- the answer has on each day exactly the set of that day; no list of period rows with the same
--- snapshots is shorter; its rows stand in order; and each row has its witness against the sets
+-- snapshots is shorter; its rows are in order; and each row has its witness against the sets
 pub record IsSequencedAnswer (InSet : ℤ → List Value → Type 0) (answer : Answer) : Type 0 where
   pub daily : (day : ℤ) (values : List Value)
       → (InSnapshot answer.rows day values ↔ InSet day values)

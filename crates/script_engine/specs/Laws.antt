@@ -1,5 +1,5 @@
--- What follows of two lists with the same snapshots where one is a sequenced answer, and of answers
--- over slices of the days. Each law is the contract of a function of this crate.
+-- Two lists with the same snapshots, of which one is a sequenced answer, and answers over slices of
+-- the days. Each law is the contract of a function of this crate.
 use Rattle.std.specs.Prelude.{◌≡◌, ℤ, List}
 use Rattle.std.specs.List.{AllZip}
 use Rattle.period_core.specs.declared.answer.Answer.{Answer}

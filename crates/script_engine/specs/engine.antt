@@ -9,6 +9,9 @@ pub mod VersionLists
 pub mod Answering
 pub mod Needed
 pub mod Runs
+pub mod Healthy
 pub mod Over
+pub mod Unwritten
 pub mod Opens
+pub mod Copies
 pub mod Audits

@@ -1,7 +1,9 @@
 //! The engine: the statements that it runs over a store.
 
 ghost use Rattle.std.specs.Prelude.{◌≡◌, ◌++◌, ◌<ℤ◌, ◌≤ℤ◌, false, IsPermutation, List, map};
-ghost use Rattle.std.specs.Prelude.{IfErr, IfOk, OnErr, OnOk, ℤ};
+ghost use Rattle.std.specs.Prelude.{IfErr, IfOk, OnErr, OnOk, Some, length, ℤ};
+ghost use Rattle.catalog_core.specs.declared.table.TableDef.{TableDef as Definition};
+ghost use Rattle.catalog_core.specs.table.TableWords.{table_of};
 ghost use Rattle.period_core.specs.Moments.{forever};
 ghost use Rattle.period_core.specs.declared.version.VersionRow.{VersionRow as Version};
 ghost use Rattle.period_keys.specs.Versions.{begun};
@@ -9,28 +11,33 @@ ghost use Rattle.period_core.specs.declared.refusal.Refusal.TheVariants.{BadStor
 ghost use Rattle.sqlite.specs.Held.{state};
 ghost use Rattle.version_tables.specs.Represents.{HaveOwnRowids};
 ghost use Rattle.version_tables.specs.Steps.{IsAsBefore};
-ghost use Rattle.version_tables.specs.declared.form.Form.TheVariants.{Microseconds};
-ghost use Rattle.version_store.specs.Changed.{planned};
+ghost use Rattle.version_tables.specs.Tables.{no_schema};
+ghost use Rattle.version_tables.specs.declared.form.Form.TheVariants.{Seconds};
+ghost use Rattle.version_store.specs.Changed.{CanMake, planned};
 ghost use Rattle.version_store.specs.Contents.{AreRowsOf, Contents};
 ghost use Rattle.version_store.specs.DistinctKeys.{HaveDistinctKeys};
 ghost use Rattle.version_store.specs.GoodStore.{AreGood, IsGoodStore};
-ghost use Rattle.version_store.specs.StoreState.{Changes, IsFailure, IsOpenRefusal};
-ghost use Rattle.version_store.specs.StoreState.{IsStoreRefusal, IsUsable, SparesOthers};
-ghost use Rattle.version_store.specs.StoreState.{StaysOnErr, StoreRepresents};
+ghost use Rattle.version_store.specs.StoreState.{Changes, FailsForReason, IsFailure};
+ghost use Rattle.version_store.specs.StoreState.{IsOpenRefusal, IsStoreRefusal, IsUsable};
+ghost use Rattle.version_store.specs.StoreState.{SparesOthers, StaysOnErr, StoreRepresents};
+ghost use Rattle.version_store.specs.Written.{IsMovable};
 ghost use Rattle.history_model.specs.Histories.{Advanced, History, state_at, with_event};
 ghost use Rattle.history_model.specs.Versions.{values_at};
 ghost use Rattle.ended_versions.specs.Packed.{closed_at};
-ghost use Rattle.script_engine.specs.engine.Ended.{HaveClosed};
+ghost use Rattle.script_engine.specs.engine.Ended.{HaveClosed, ended_in};
 ghost use Rattle.script_engine.specs.engine.EngineState.{store_of};
 ghost use Rattle.script_engine.specs.engine.Faults.{AreConstrained};
+ghost use Rattle.script_engine.specs.engine.Healthy.{FailsOnFault, StatementFailsOnFault};
 ghost use Rattle.script_engine.specs.engine.InMemory.{AreKeysIn, HaveRows, IsSameInMemory, rows_in};
 ghost use Rattle.script_engine.specs.engine.Opens.{Opens};
 ghost use Rattle.script_engine.specs.engine.Over.{StepOver};
 ghost use Rattle.script_engine.specs.engine.Planned.{IsResolved};
-ghost use Rattle.script_engine.specs.engine.Runs.{FailsOnFault, IsQuery, MayRefuseMoment};
-ghost use Rattle.script_engine.specs.engine.Runs.{MayRefuseQuery, StepsTo};
+ghost use Rattle.script_engine.specs.engine.Runs.{IsQuery, MayRefuseMoment, MayRefuseQuery};
+ghost use Rattle.script_engine.specs.engine.Runs.{StepsTo};
 ghost use Rattle.script_engine.specs.engine.Stored.{EngineRepresents, IsBadStore, KeepsOnErr};
 ghost use Rattle.script_engine.specs.engine.Stored.{WasUsable};
+ghost use Rattle.statement_reports.specs.declared.outcome.Outcome.TheVariants.{Done};
+ghost use Rattle.statement_reports.specs.declared.outcome.Word.TheVariants as word;
 ghost use Rattle.sql_statements.specs.Plain.{plain, plain_query, plain_stored};
 ghost use Rattle.sql_statements.specs.Trees.{Statement as StatementModel};
 ghost use Rattle.sql_statements.specs.Trees as statement;
@@ -38,6 +45,7 @@ ghost use Rattle.sql_statements.specs.Trees as statement;
 mod audits;
 mod chained;
 mod closed;
+mod copied;
 mod in_memory;
 mod indexed;
 mod lawfulness;
@@ -45,19 +53,17 @@ mod needed;
 mod outcome;
 mod sequenced_queries;
 mod stored;
+mod unwritten;
 mod version_lists;
 
-use crate::engine::closed::{add_versions, apply_closing, remove_versions};
+use crate::engine::closed::{add_versions, apply_change, remove_versions};
 use crate::engine::indexed::load_lawful;
 use crate::engine::lawfulness::{LawfulPlan, lawful_plan};
-use crate::engine::needed::answer_of;
+use crate::engine::needed::answer_query;
 use crate::engine::outcome::done;
 use crate::engine::stored::shown_by;
 use crate::engine::version_lists::version_columns;
-use catalog_core::{
-    Catalog, Change, Plan, define, resolve_delete, resolve_insert, resolve_sequenced,
-    resolve_stored_query, resolve_update,
-};
+use catalog_core::{Catalog, Change, Plan, define, of_number};
 use ended_versions::EndedVersions;
 use period_core::{Items, Moment, Refusal, VersionRow};
 use period_keys::{Key, TableIndex};
@@ -67,6 +73,9 @@ use sql_statements::{
 use sqlite::Connection;
 use sqlite_trees::store::Alter;
 use statement_reports::{Outcome, VersionList, Word};
+use statement_resolution::{
+    resolve_delete, resolve_insert, resolve_sequenced, resolve_stored_query, resolve_update,
+};
 use std::alloc::Global;
 use std::marker::Model;
 use std::mem::ManuallyDrop;
@@ -83,7 +92,7 @@ pub struct Engine<S: Alter> {
 }
 
 impl<S: Alter> Model for Engine<S> {
-    ghost use Rattle.std.specs.Prelude.{map};
+    ghost use Rattle.std.specs.Prelude.{◌≡◌, length, map};
     ghost use Rattle.period_keys.specs.Current.{rows_by_key};
     ghost use Rattle.script_engine.specs.engine.EngineState.{EngineState, engine_of};
     ghost use Rattle.script_engine.specs.engine.EngineState.{engine_state_code};
@@ -97,10 +106,11 @@ impl<S: Alter> Model for Engine<S> {
     ghost view = { λ e. engine_of e.store (map rows_by_key e.tables.items) e.ended.items };
 
     ghost invariant = { λ e. FollowCatalog e.store.catalog.tables e.tables.items
-        × AllEndedBy e.store.clock e.ended.items };
+        × AllEndedBy e.store.clock e.ended.items
+        × (length e.ended.items ≡ length e.store.catalog.tables) };
 }
 
-/// The connection of a store, which is a good one where its contents are.
+/// The connection of a store, which is a good one if its contents are.
 fn connection_of<S: Alter>(store: VersionStore<S>) -> Connection<S>
     ensures same { result ≡ store.connection }
     ensures settled { result.in_transaction ≡ false }
@@ -114,14 +124,14 @@ fn connection_of<S: Alter>(store: VersionStore<S>) -> Connection<S>
     connection
 }
 
-// A clause of a store's contents holds where its connection is usable as the call ends: its disk is
+// A clause of a store's contents holds if its connection is usable as the call ends: its disk is
 // clean, and no failure has shut it. A store in memory always is. Without that each call is safe
 // and returns; `open` gives only the refusals that it names; and `at` and `execute` are refused
 // only for a condition that holds of the catalog and the clock in memory, which a refusal leaves as
 // they were. A refusal leaves the database as it was whatever tables it has.
 impl<S: Alter> Engine<S> {
     /// Opens a store: a new one in a database that has none of its three tables, or else the one
-    /// that is there, if it is a good one. One of form 1 is moved to form 2, in one transaction,
+    /// that exists, if it is a good one. One of form 1 is moved to form 2, in one transaction,
     /// once all of it has been judged; one of form 2 is not written. An `Err` hands the connection
     /// back: 60 for a store that is not good, 61 or 62. It changes nothing, and no transaction is
     /// open on the connection.
@@ -136,12 +146,20 @@ impl<S: Alter> Engine<S> {
         ensures bad { IfErr result (λ failed. IsUsable S.Store failed.1 → failed.0 ≡ BadStore
             → IsBadStore (state S.Store connection).now) }
 
-        // A good store of form 2 is refused only for memory, or where there was a fault of the
-        // database. Its rows have rowids of their own, as those of each table have.
+        // A good store is refused only for memory, or if there was a fault of the database: one
+        // of form 1, which is moved, if its database is healthy and its versions are short. Its
+        // rows have rowids of their own, as those of each table have.
         ensures why { IfErr result (λ failed. IsUsable S.Store failed.1
             → (good : IsGoodStore AreConstrained (state S.Store connection).now)
-            → good.form ≡ Microseconds → HaveOwnRowids ((state S.Store connection).now.trees 2)
+            → (good.form ≡ Seconds → IsMovable (state S.Store connection).now good.contents)
+            → HaveOwnRowids ((state S.Store connection).now.trees 2)
             → IsFailure S.Store connection failed.1 failed.0) }
+
+        // So is a new store in a database without tables.
+        ensures why_new { IfErr result (λ failed. IsUsable S.Store failed.1
+            → (state S.Store connection).now.schema ≡ no_schema
+            → IsFailure S.Store connection failed.1 failed.0) }
+
         ensures none { IfErr result (λ failed. IsUsable S.Store failed.1
             → IsAsBefore (state S.Store connection) (state S.Store failed.1)) }
         ensures settled { IfErr result (λ failed. failed.1.in_transaction ≡ false) }
@@ -183,8 +201,8 @@ impl<S: Alter> Engine<S> {
         connection_of(store)
     }
 
-    /// The same for a program that ends soon. The memory of the rows is left to the end of the
-    /// process: to give many rows back, one by one, takes time.
+    /// Closes the store for a program that ends soon. The memory of the rows is left to the end of
+    /// the process: to give many rows back, one by one, takes time.
     pub fn close_at_exit(self) -> Connection<S>
         ensures same { result ≡ self.connection }
         ensures settled { result.in_transaction ≡ false }
@@ -216,6 +234,17 @@ impl<S: Alter> Engine<S> {
         self.store.catalog()
     }
 
+    /// The number of versions of the table of a number that have ended; none of a number without a
+    /// table.
+    pub(crate) fn ended_of(&self, table: u8) -> usize
+        ensures { result ≡ length (ended_in self.now.ended table) }
+    {
+        match of_number(self.ended.as_slice(), table) {
+            Some(list) => list.len(),
+            None => 0,
+        }
+    }
+
     /// The version rows of the table of a number, by values, then period start, then system start:
     /// as of each moment they hold on each day the state of the table, each row as often. Nothing
     /// is changed.
@@ -242,7 +271,7 @@ impl<S: Alter> Engine<S> {
 
     /// Moves the clock to a moment. An `Err` changes nothing: it is 13 for FOREVER, 40 for a
     /// moment before the clock, whatever memory there is, and only for others 61 or 62; over a
-    /// healthy database 62 only where there was a fault of it.
+    /// healthy database 62 only if there was a fault of it.
     pub fn at(&mut self, moment: Moment) -> Result<(), Refusal>
         ensures moved { IsUsable S.Store self.new.connection
             → (history : History) → EngineRepresents S.Store history self.old
@@ -267,12 +296,14 @@ impl<S: Alter> Engine<S> {
     }
 
     /// Runs an AT. An `Err` changes nothing.
-    fn advance(&mut self, moment: ClockMoment) -> Result<Outcome, Refusal>
+    pub(crate) fn advance(&mut self, moment: ClockMoment) -> Result<Outcome, Refusal>
+        ensures done { IfOk result (λ outcome. outcome ≡ Done word.At 0) }
         ensures step { IsUsable S.Store self.new.connection
             → (history : History) → EngineRepresents S.Store history self.old
             → StepsTo S.Store history (statement.at moment) result self.new }
         ensures kept { KeepsOnErr S.Store self.old self.new result }
         ensures over { StepOver S.Store self.old (statement.at moment) result self.new }
+        ensures why { StatementFailsOnFault S.Store self.old (statement.at moment) result self.new }
         ensures others { SparesOthers S.Store self.old.connection self.new.connection }
     {
         self.at(moment.moment())?;
@@ -286,6 +317,8 @@ impl<S: Alter> Engine<S> {
             → StepsTo S.Store history (statement.create create.now) result self.new }
         ensures kept { KeepsOnErr S.Store self.old self.new result }
         ensures over { StepOver S.Store self.old (statement.create create.now) result self.new }
+        ensures why { StatementFailsOnFault S.Store self.old (statement.create create.now) result
+            self.new }
         ensures others { SparesOthers S.Store self.old.connection self.new.connection }
     {
         let definition = define(alloc, self.store.catalog(), create)?;
@@ -301,9 +334,9 @@ impl<S: Alter> Engine<S> {
         }
     }
 
-    /// Makes what a plan, the keys of whose added rows these are, says of the table of a number at
-    /// the clock, in the database and in memory, where the plan ends some of its current rows. On
-    /// `Err` nothing is changed.
+    /// Makes what a plan, the keys of whose added rows these are, says of the table of a number,
+    /// which exists, at the clock, in the database and in memory, if the plan ends some of its
+    /// current rows. On `Err` nothing is changed.
     fn apply(
         &mut self,
         alloc: Global,
@@ -311,6 +344,8 @@ impl<S: Alter> Engine<S> {
         plan: &Plan,
         keys: Vec<Key>,
     ) -> Result<(), Refusal>
+        requires there { (definition : Definition)
+            × (table_of self.old.catalog.tables table ≡ Some definition) }
         requires split { (stay : List Version)
             × IsPermutation (rows_in self.old.tables table) (plan.now.ended ++ stay) }
         requires keys { AreKeysIn self.old.tables table plan.now.added keys.items }
@@ -326,31 +361,34 @@ impl<S: Alter> Engine<S> {
             self.old.tables self.new.tables) }
         ensures none { OnErr result
             (HaveRows table (rows_in self.old.tables table) self.old.tables self.new.tables) }
-        ensures closed { OnOk result (HaveClosed table
+        ensures appended { OnOk result (HaveClosed table
             (closed_at self.old.clock plan.now.ended) self.old.ended self.new.ended) }
-        ensures open { OnErr result (self.new.ended ≡ self.old.ended) }
+        ensures unchanged { OnErr result (self.new.ended ≡ self.old.ended) }
         ensures catalog { self.new.catalog ≡ self.old.catalog }
         ensures clock { self.new.clock ≡ self.old.clock }
         ensures none_stored { StaysOnErr S.Store self.old.connection self.new.connection result }
         ensures usable { WasUsable S.Store self.old.connection self.new.connection }
         ensures others { SparesOthers S.Store self.old.connection self.new.connection }
         ensures named { IfErr result IsStoreRefusal }
+        ensures why { FailsForReason S.Store (store_of self.old) (store_of self.new) result
+            (length plan.now.added)
+            (CanMake table self.old.clock plan.now.ended plan.now.added) }
     {
         if table == 0 {
-            return Err(Refusal::Store);
+            unreachable!()
         }
         let place = usize::from(table) - 1;
         let Some(index) = self.tables.get_mut(place) else {
-            return Err(Refusal::Store);
+            unreachable!()
         };
         let Some(ended) = self.ended.get_mut(place) else {
-            return Err(Refusal::Store);
+            unreachable!()
         };
-        apply_closing(alloc, &mut self.store, index, ended, table, plan, keys)
+        apply_change(alloc, &mut self.store, index, ended, table, plan, keys)
     }
 
     /// Makes the change of this word that a statement is resolved to, or is refused as it was:
-    /// where the change is lawful, what its plan ends and adds is ended and added in one
+    /// if the change is lawful, what its plan ends and adds is ended and added in one
     /// transaction, and in memory. An `Err` changes nothing.
     fn change(
         &mut self,
@@ -366,6 +404,8 @@ impl<S: Alter> Engine<S> {
         ensures kept { KeepsOnErr S.Store self.old self.new result }
         ensures over { (s : StatementModel) → IsResolved self.old.catalog.tables s word resolved
             → StepOver S.Store self.old s result self.new }
+        ensures why { (s : StatementModel) → IsResolved self.old.catalog.tables s word resolved
+            → StatementFailsOnFault S.Store self.old s result self.new }
         ensures others { SparesOthers S.Store self.old.connection self.new.connection }
     {
         let change = resolved?;
@@ -399,7 +439,7 @@ impl<S: Alter> Engine<S> {
         let query = resolve_sequenced(alloc, self.store.catalog(), query)?;
         let catalog = self.store.catalog();
         let tables = self.tables.as_slice();
-        let answer = answer_of(alloc, catalog, tables, &mut self.ended, &query)?;
+        let answer = answer_query(alloc, catalog, tables, &mut self.ended, &query)?;
         Ok(Outcome::Answer(answer))
     }
 
@@ -431,8 +471,8 @@ impl<S: Alter> Engine<S> {
     }
 
     /// Runs a statement. An `Err` changes nothing: it is the refusal of the least number whose
-    /// condition holds; out of memory; or another failure of the database, only where no condition
-    /// of 1 to 31 or 40 holds.
+    /// condition holds; out of memory; or another failure of the database, only if no condition
+    /// of 1 to 31 or 40 holds, and over a healthy database only if there was a fault of it.
     pub fn execute(&mut self, alloc: Global, statement: &Statement) -> Result<Outcome, Refusal>
         // Whatever history the engine represents, the call is a step of it, and the engine then
         // represents the new one.
@@ -441,11 +481,15 @@ impl<S: Alter> Engine<S> {
             → StepsTo S.Store history (plain statement.now) result self.new }
         ensures kept { KeepsOnErr S.Store self.old self.new result }
 
-        // A query is refused with 62 only where there was a fault of the database.
+        // A query is refused with 62 only if there was a fault of the database.
         ensures queries { IsUsable S.Store self.new.connection
             → (history : History) → EngineRepresents S.Store history self.old
             → IsQuery (plain statement.now)
             → IfErr result (MayRefuseQuery S.Store self.old self.new (plain statement.now)) }
+
+        // Over a healthy database with room for what the statement adds, 62 comes of a fault alone.
+        ensures why { StatementFailsOnFault S.Store self.old (plain statement.now) result
+            self.new }
 
         // And whatever the database holds:
         ensures over { StepOver S.Store self.old (plain statement.now) result self.new }

@@ -1,10 +1,14 @@
-//! What follows from the theorem of sequenced answers, and from the definitions of what is stored.
+//! Consequences of the theorem of sequenced answers, and of the definitions of what is stored.
 //! Each function does nothing: its contract is a law.
 
 ghost use Rattle.script_engine.specs.Laws.{AnswersAreUnique, AnswersMapOneToOne};
 ghost use Rattle.script_engine.specs.Laws.{SameSnapshotsSameAnswers, SlicesJoinToTheAnswer};
 ghost use Rattle.script_engine.specs.engine.Audits.{AuditsAgree, AuditsCountOnce};
 ghost use Rattle.script_engine.specs.engine.Moved.{StoresMoveAsTheModel};
+ghost use Rattle.script_engine.specs.script.Noted.{ChangesEndOrForget};
+ghost use Rattle.script_engine.specs.script.ReadOnly.{ReadOnlyRunsAreRuns};
+ghost use Rattle.script_engine.specs.script.ReadOnly.{ReadOnlyRunsChangeNothing};
+ghost use Rattle.script_engine.specs.script.Timed.{TimedClocksGoOn, TimedRunsAreRuns};
 
 /// A list with the same snapshots has a row of its own for each row of an answer, of the same
 /// values and first day. So no such list is shorter.
@@ -41,9 +45,38 @@ pub fn audits_count_once()
     ensures { AuditsCountOnce }
 {}
 
-/// Where a store that counts moments in whole seconds has what a database of the model keeps, it
+/// If a store that counts moments in whole seconds has what a database of the model keeps, it
 /// has in microseconds what the moved database keeps. So the law of moved openings is one of stores
 /// that are opened.
 pub fn stores_move_as_the_model()
     ensures { StoresMoveAsTheModel }
+{}
+
+/// A run at the system's time is a run of the same script with ATs put before its statements. So
+/// what is said of runs is said of it too.
+pub fn timed_runs_are_runs()
+    ensures { TimedRunsAreRuns }
+{}
+
+/// At the system's time the clock never goes back, and never beyond that time.
+pub fn timed_clocks_go_on()
+    ensures { TimedClocksGoOn }
+{}
+
+/// A run over a store that is only read is a run of the same script, in which what is no query is
+/// refused. So what is said of runs is said of it too.
+pub fn read_only_runs_are_runs()
+    ensures { ReadOnlyRunsAreRuns }
+{}
+
+/// A run over a store that is only read leaves the clock, the tables, and what they hold as of each
+/// moment.
+pub fn read_only_runs_change_nothing()
+    ensures { ReadOnlyRunsChangeNothing }
+{}
+
+/// Of the versions that a change touches each has ended after it, or is forgotten: nothing else is
+/// lost of them.
+pub fn changes_end_or_forget()
+    ensures { ChangesEndOrForget }
 {}

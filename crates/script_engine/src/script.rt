@@ -1,4 +1,4 @@
-//! Scripts: their text, their pieces, and the results of these.
+//! Scripts: their text, their pieces, and the pieces' results.
 
 ghost use Rattle.std.specs.Prelude.{◌≡◌, ◌≤◌, All, IfErr, IfOk, List, OnOk, false, length, map};
 ghost use Rattle.std.specs.Str.{IsUtf8};
@@ -20,19 +20,23 @@ ghost use Rattle.script_engine.specs.engine.Stored.{DatabaseRepresents, EngineRe
 ghost use Rattle.script_engine.specs.engine.Stored.{IsAlwaysUsable, IsBadStore, RepresentsSome};
 ghost use Rattle.script_engine.specs.engine.Stored.{WasUsable};
 ghost use Rattle.script_engine.specs.script.AuditedRuns.{IsAuditedRunFrom, results_of};
-ghost use Rattle.script_engine.specs.script.Listening.{HearsAll, StepFront};
-ghost use Rattle.script_engine.specs.script.Script.{IsCutInto, IsRunBy, IsRunFrom, KeptStepOver};
+ghost use Rattle.script_engine.specs.script.Listening.{ReceivesAll, StepFront};
+ghost use Rattle.script_engine.specs.script.Script.{IsCutInto, IsRunBy, IsRunFrom};
 ghost use Rattle.script_engine.specs.script.Script.{MayRefuseRun, MayRefuseScript, PieceStepOver};
 ghost use Rattle.script_engine.specs.script.Script.{TextApplies, most_bytes};
 
 pub(crate) mod check;
 pub(crate) mod listener;
+pub(crate) mod noted;
 pub(crate) mod over;
 pub(crate) mod piece_result;
+pub(crate) mod read_only;
+pub(crate) mod timed;
 
 use crate::engine::Engine;
 use crate::script::listener::{AllKept, Listener};
 use crate::script::piece_result::PieceResult;
+use crate::script::timed::NoClock;
 use period_core::Refusal;
 use sql_front::{LexFault, Span, TokenSpan, cut_spans, lex_spans, parse, tokens_at};
 use sql_statements::Statement;
@@ -41,6 +45,7 @@ use sqlite_trees::store::Alter;
 use statement_reports::{Entry, Outcome};
 use std::alloc::Global;
 use std::str;
+use std::time::Clock;
 
 /// The most bytes that a script may have.
 pub const MOST_BYTES: usize = 4_194_304;
@@ -128,10 +133,11 @@ pub(crate) fn script_pieces<'a>(alloc: Global, script: &'a [u8]) -> Result<Piece
     })
 }
 
-/// What a run keeps of a piece of a script.
-fn run_piece<S: Alter, K: PieceResult<S>>(
+/// Runs a piece of a script, and gives what is kept of it.
+fn run_piece<S: Alter, K: PieceResult<S>, C: Clock>(
     alloc: Global,
     engine: &mut Engine<S>,
+    clock: &C,
     script: &str,
     piece: &[TokenSpan],
 ) -> K
@@ -140,8 +146,7 @@ fn run_piece<S: Alter, K: PieceResult<S>>(
         → (history : History) → EngineRepresents S.Store history engine.old
         → RepresentsSome S.Store
         (K.is_step history (lexemes_at script.now piece.now) result) engine.new }
-    ensures over { KeptStepOver S.Store K.result_of engine.old (lexemes_at script.now piece.now)
-        result engine.new }
+    ensures over { K.is_step_over engine.old (lexemes_at script.now piece.now) result engine.new }
     ensures usable { WasUsable S.Store engine.old.connection engine.new.connection }
     ensures others { SparesOthers S.Store engine.old.connection engine.new.connection }
 {
@@ -149,8 +154,8 @@ fn run_piece<S: Alter, K: PieceResult<S>>(
         Ok(statement) => statement,
         Err(refusal) => return K::refused(refusal),
     };
-    let kept = K::executed(alloc, engine, &statement);
-    // By a call: the proof of an implicit drop goes through each kind of statement.
+    let kept = K::executed(alloc, engine, clock, &statement);
+    // By a call: the proof of an implicit drop walks through each kind of statement.
     drop(statement);
     kept
 }
@@ -158,9 +163,10 @@ fn run_piece<S: Alter, K: PieceResult<S>>(
 /// Runs the pieces of a script, one after the other, from any history that the engine represents,
 /// and passes on what it keeps of each. Says whether it came to the last: it ends before where the
 /// listener asks for no more.
-fn run_pieces<S: Alter, K: PieceResult<S>, L: Listener<K>>(
+fn run_pieces<S: Alter, K: PieceResult<S>, C: Clock, L: Listener<K>>(
     alloc: Global,
     engine: &mut Engine<S>,
+    clock: &C,
     script: &str,
     tokens: &[TokenSpan],
     pieces: &[Span],
@@ -169,9 +175,9 @@ fn run_pieces<S: Alter, K: PieceResult<S>, L: Listener<K>>(
     requires inside { All (IsInScript script.now) tokens.now }
     requires within { All (IsWithin (length tokens.now)) pieces.now }
     ensures run { (results : List K)
-        × HearsAll L.hears 1 listener.old results result listener.new
+        × ReceivesAll L.hears 1 listener.old results result listener.new
         × (length results ≤ length pieces.now)
-        × StepFront (KeptStepOver S.Store K.result_of) engine.old
+        × StepFront K.is_step_over engine.old
         (map (spanned (lexemes_at script.now tokens.now)) pieces.now) results result engine.new
         × (IsUsable S.Store engine.new.connection
         → (history : History) → EngineRepresents S.Store history engine.old
@@ -181,7 +187,13 @@ fn run_pieces<S: Alter, K: PieceResult<S>, L: Listener<K>>(
     ensures others { SparesOthers S.Store engine.old.connection engine.new.connection }
 {
     for (i, piece) in pieces.iter().enumerate() {
-        let kept: K = run_piece(alloc, engine, script, &tokens[piece.start..piece.end]);
+        let kept: K = run_piece(
+            alloc,
+            engine,
+            clock,
+            script,
+            &tokens[piece.start..piece.end],
+        );
         if !listener.hear(i as u64 + 1, kept) {
             return false;
         }
@@ -210,7 +222,7 @@ pub fn run<S: Alter, K: PieceResult<S> + Drop>(
 
     // And whatever the database holds, of the engine that is opened and the one that is given.
     ensures over { IfOk result (λ ran. (opening : EngineState S) × Opens S.Store connection opening
-        × ((made : IsRunBy (KeptStepOver S.Store K.result_of) opening script.now ran.0.items)
+        × ((made : IsRunBy K.is_step_over opening script.now ran.0.items)
         × (made.last ≡ ran.1))) }
     ensures others { IfOk result (λ ran. SparesOthers S.Store connection ran.1.connection) }
     ensures usable { IfOk result (λ ran. WasUsable S.Store connection ran.1.connection) }
@@ -236,7 +248,15 @@ pub fn run<S: Alter, K: PieceResult<S> + Drop>(
     let tokens = pieces.tokens.as_slice();
     let spans = pieces.spans.as_slice();
     let mut all = AllKept { kept: room };
-    run_pieces::<S, K, AllKept<K>>(alloc, &mut engine, pieces.text, tokens, spans, &mut all);
+    run_pieces::<S, K, NoClock, AllKept<K>>(
+        alloc,
+        &mut engine,
+        &NoClock,
+        pieces.text,
+        tokens,
+        spans,
+        &mut all,
+    );
     let AllKept { kept } = all;
     Ok((kept, engine))
 }
@@ -269,9 +289,9 @@ pub fn run_script<S: Alter + Drop>(
     }
 }
 
-/// The same, with an audit of each answer at once, over the rows that were seen for it. The entries
-/// are those of the script's statements, refused ones too, in order. An audit says that the answer
-/// agrees, or is refused for memory; the script goes on either way.
+/// Runs a script with an audit of each answer at once, over the rows that were seen for it. The
+/// entries are those of the script's statements, refused ones too, in order. An audit says that
+/// the answer agrees, or is refused for memory; the script goes on either way.
 pub fn run_audited<S: Alter + Drop>(
     alloc: Global,
     connection: Connection<S>,

@@ -6,9 +6,9 @@ use Rattle.temporal_model.specs.Snapshot.{InSnapshot}
 use Rattle.sequenced_ops.specs.Operations.{Cond}
 use Rattle.sequenced_ops.specs.Joining.{Adds, CanMeet}
 use Rattle.sequenced_ops.specs.Planning.{RulesOut}
-use Rattle.sequenced_ops.proofs.Standing.{holds-append}
+use Rattle.sequenced_ops.proofs.TwoRows.{holds-append}
 
--- what is ruled out cannot meet the conditions
+-- a row that is ruled out cannot meet the conditions
 pub ruled_out-not : (conjuncts : List Cond) (values : List Value) → RulesOut conjuncts 0 values → CanMeet conjuncts values → ⊥
 ruled_out-not conjuncts values ruled (rest, met) = ruled [] rest refl met
 
@@ -24,7 +24,7 @@ module _ (conjuncts : List Cond) where
     complete = λ day vs h can. (same day vs).1 (inr h);
   }
 
-  -- nothing, where no row of the set can meet the conditions
+  -- nothing, if no row of the set can meet the conditions
   pub Adds-none :
       (InSet : ℤ → List Value → Type 0) (rows : List PeriodRow)
       → ((day : ℤ) (vs : List Value) → InSet day vs → CanMeet conjuncts vs → ⊥)
@@ -53,7 +53,7 @@ module _ (conjuncts : List Cond) where
     ];
   }
 
-  -- the same behind other rows
+  -- adding behind other rows
   pub Adds-behind :
       (InSet : ℤ → List Value → Type 0) (done old new : List PeriodRow) → Adds conjuncts InSet old new
       → Adds conjuncts InSet (done ++ old) (done ++ new)

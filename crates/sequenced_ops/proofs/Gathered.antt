@@ -9,7 +9,7 @@ use Rattle.sequenced_ops.specs.Outputs.{GivesSome, InSelected, IsGathered, IsGiv
 use Rattle.sequenced_ops.specs.declared.outputs.JoinOutput.{JoinOutput}
 use Rattle.sequenced_ops.specs.declared.outputs.JoinOutput.TheVariants.{Pairs}
 use Rattle.sequenced_ops.proofs.Added.{Adds-behind, Adds-both}
-use Rattle.sequenced_ops.proofs.Standing.{holds-append}
+use Rattle.sequenced_ops.proofs.TwoRows.{holds-append}
 
 -- of other pairs too, where what is known of the pairs says so
 pub gives_weaker :
@@ -20,7 +20,7 @@ gives_weaker Are Also conjuncts output rows step (pairs, are, given) = (pairs, s
 
 -- ---- one batch
 
--- what the selection of more rows adds to that of those before
+-- the rows that the selection of more rows adds to that of those before
 abbrev pub SelectsMore : List Cond → List ℕ → List PeriodRow → List PeriodRow → List PeriodRow → Type 0
 SelectsMore conjuncts columns selected pairs rows =
     SnapshotsAre (λ day values. InSnapshot selected day values ⊎ InSelected conjuncts columns pairs day values) rows

@@ -1,4 +1,4 @@
--- The steps of the sweep that intersects.
+-- The steps of the sweep that intersects: days that are passed, and days that both sides share.
 use Rattle.std.proofs.Common.{◌≡◌, ◌<ℤ◌, ◌≤ℤ◌, ◌↔◌, ℤ, List, [], ◌∷◌, ◌++◌, sym, ◌∙◌, inl, inr, ◌⊎◌, arith}
 use Rattle.std.proofs.lemmas.Int.{ints}
 use Rattle.period_core.specs.DaySets.{InPeriod}
@@ -9,7 +9,7 @@ use Rattle.temporal_model.specs.Snapshot.{InSnapshot, Equivalent}
 use Rattle.temporal_model.proofs.Members.{AllPairs-head}
 use Rattle.sequenced_ops.specs.Operations.{InIntersection}
 use Rattle.sequenced_ops.specs.Sweeping.{RowHolds, Precedes, IsDisjoint, KeepsLater}
-use Rattle.sequenced_ops.proofs.Standing.{holds-cons, holds-push, unheld, precedes_all}
+use Rattle.sequenced_ops.proofs.TwoRows.{holds-cons, holds-push, unheld, precedes_all}
 use Rattle.sequenced_ops.proofs.Sweeps.{passed}
 use Rattle.sequenced_ops.proofs.Sides.{kept_for}
 
@@ -17,7 +17,8 @@ use Rattle.sequenced_ops.proofs.Sides.{kept_for}
 abbrev pub Inside : PeriodRow → List PeriodRow → ℤ → List Value → Type 0
 Inside row rows day vs = RowHolds row day vs × InSnapshot rows day vs
 
--- what is added already, and the row's days inside what is left, are what was there and all of the row's days inside the others
+-- the rows added already, and the row's days inside the rest, are the rows before and all of the
+-- row's days inside the others
 abbrev pub Remains : List PeriodRow → PeriodRow → List PeriodRow → List PeriodRow → List PeriodRow → Type 0
 Remains old row others rows rest =
     (day : ℤ) (vs : List Value) → ((InSnapshot rows day vs ⊎ Inside row rest day vs) ↔ (InSnapshot old day vs ⊎ Inside row others day vs))
@@ -105,7 +106,7 @@ intersection_turn row rest others left up keeps day vs = (
   ],
 )
 
--- what is there already, and the intersection of what is left, are the intersection of the two sides
+-- the rows before, and the intersection of the rest, are the intersection of the two sides
 abbrev pub IntersectionLeft : List PeriodRow → List PeriodRow → List PeriodRow → List PeriodRow → List PeriodRow → Type 0
 IntersectionLeft left right rows others rest =
     (day : ℤ) (vs : List Value) → ((InSnapshot rows day vs ⊎ InIntersection rest others day vs) ↔ InIntersection left right day vs)

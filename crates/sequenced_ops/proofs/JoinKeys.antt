@@ -48,7 +48,7 @@ same_value (Some left) (Some right) e = (
       (sym (value_cmp-same left right (is_tie (value_cmp left right) e))),
 )
 
--- ---- where they are
+-- ---- the places of values
 
 -- a value of the whole row at the position of a pair's left side
 left_at
@@ -86,7 +86,7 @@ pair_equal width more left right pair is first second rest e f met =
       sym (right_at width more left right pair is first second rest e f) ∙ two,
     )
 
--- the same where the comparison has its sides the other way round
+-- a comparison that has its sides the other way round
 pub pair_equal_back
     : (width more left right : ℕ) (pair : Equality) → IsColumnPair width more left right pair
     → (first second rest : List Value) → length first ≡ width → length second ≡ more
@@ -154,7 +154,7 @@ adds_test condition leaf width more keys pair is new first second rest e f met o
     sym (test_truth (compares row) leaf) ∙ ap (λ (t : Cond). meets t row) (sym is) ∙ met in
     All-push (IsEqual first second) keys pair old (new first second rest e f holds)
 
--- the keys of a part that must hold where the condition does
+-- the keys of a part that must hold if the condition does
 adds_of
     : (condition part : Cond) (width more : ℕ) (before middle after : List Equality)
     → ((values : List Value) → meets condition values ≡ true → meets part values ≡ true)
@@ -184,7 +184,7 @@ adds_alone condition first_part others width more before after is none new =
     ∙ ap (λ (t : Cond). meets t values) (sym is) ∙ met))
     (adds_none condition width more before) new
 
--- an AND holds only where its first part and the others do
+-- an AND holds only if its first part and the others do
 and_is
     : (condition : Cond) (first_part : Box Cond) (others : Vec Cond) (values : List Value)
     → condition ≡ code.And first_part others → meets condition values ≡ true
@@ -208,7 +208,7 @@ adds_first condition first_part others width more before after is new =
     (and_is condition first_part others values is met)).0)
     (adds_none condition width more before) new
 
--- those of another part of it
+-- the equalities of another part of the condition
 pub adds_part
     : (condition : Cond) (first_part : Box Cond) (others : Vec Cond) (parts : List Cond)
     → (i : ℕ) (part : Cond) (width more : ℕ) (before middle after : List Equality)

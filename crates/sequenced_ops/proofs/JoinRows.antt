@@ -24,7 +24,7 @@ use Rattle.history_model.specs.OrdinaryQuery.{meets_all}
 use Rattle.sequenced_ops.specs.Operations.{Cond, ReadsColumns}
 use Rattle.sequenced_ops.specs.Joining.{Adds, columns_on, key_of, key_cmp, InEqualPairs, IsKeyed, InPairs, PairHolds, Follows}
 use Rattle.sequenced_ops.specs.Planning.{IsPruned}
-use Rattle.sequenced_ops.proofs.Standing.{holds-nil}
+use Rattle.sequenced_ops.proofs.TwoRows.{holds-nil}
 use Rattle.sequenced_ops.proofs.Keys.{equal_reads, reads_equal, same_keys, same_read, key_cmp-refl}
 
 -- ---- the order of the rows
@@ -71,7 +71,7 @@ AllKeyed side columns rows keyed =
     (row : PeriodRow) (read : List Value) → Contains rows row → ReadsColumns columns row.values read
     → (a : KeyedRow) × Contains keyed a × IsKeyed side columns row a
 
--- what is keyed are the rows that were there, and those of a side that have a key
+-- the keyed rows are those before, and those of a side that have a key
 pub record KeyedMore (side : Side) (columns : List ℕ) (old keyed : List KeyedRow) (done : List PeriodRow) : Type 0 where
   pub kept : (a : KeyedRow) → Contains old a → Contains keyed a
   pub added : AllKeyed side columns done keyed

@@ -27,7 +27,7 @@ not_after_both a x p q =
           let wrong : is_lt (key_cmp x a) ≡ true = ap is_lt back in cc
     ] refl
 
--- what is gone for a row is gone for those that follow it
+-- a row that has expired for another has expired for those that follow it
 gone_later : (a x b : KeyedRow) → Follows a x → Follows x b → HasExpired a x → HasExpired a b
 gone_later a x b p q gone same =
     let back : is_lt (key_cmp a.key x.key) ≡ false = subst (λ k. is_lt (key_cmp k x.key) ≡ false) (sym same) q.0 in

@@ -7,13 +7,14 @@ use Rattle.temporal_model.specs.Snapshot.{InSnapshot}
 use Rattle.history_model.specs.OrdinaryQuery.{meets_all}
 use Rattle.sequenced_ops.specs.Operations.{Cond}
 use Rattle.sequenced_ops.specs.Planning.{IsPruned, RulesOut}
-use Rattle.sequenced_ops.proofs.Standing.{holds-push}
+use Rattle.sequenced_ops.proofs.TwoRows.{holds-push}
 
 module _ (conjuncts : List Cond) (start : ℕ) where
-  -- what is kept of the rows that are done
+  -- the rows that are kept of those that are done
   abbrev pub IsKept : List PeriodRow → List PeriodRow → Type 0
   IsKept done kept = IsPruned conjuncts start (InSnapshot done) kept
 
+  -- no rows are kept of none
   pub kept_none : IsKept [] []
   kept_none = record {
     sound = λ day values h. h;
@@ -26,6 +27,7 @@ module _ (conjuncts : List Cond) (start : ℕ) where
     complete = λ day first values rest e h met. h;
   }
 
+  -- a row that is kept is one more of those done and of those kept
   pub kept_more
       : (done kept : List PeriodRow) (row : PeriodRow) → IsKept done kept
       → IsKept (done ++ row ∷ []) (kept ++ row ∷ [])
@@ -44,6 +46,7 @@ module _ (conjuncts : List Cond) (start : ℕ) where
         ]);
   }
 
+  -- a row that the conditions rule out may be left out
   pub kept_same
       : (done kept : List PeriodRow) (row : PeriodRow) → RulesOut conjuncts start row.values
       → IsKept done kept → IsKept (done ++ row ∷ []) kept

@@ -56,7 +56,7 @@ same_values (value ∷ values) (other ∷ others) e =
     let tail : map some values ≡ map some others = cc in
     ap₂ (λ (v : Value) (vs : List Value). v ∷ vs) head (same_values values others tail)
 
--- what is read is determined
+-- a read value is determined
 pub same_read :
     (columns : List ℕ) (values read other : List Value) → ReadsColumns columns values read → ReadsColumns columns values other → read ≡ other
 same_read columns values read other p q = same_values read other (sym p ∙ q)
@@ -67,7 +67,7 @@ read_length columns values read p =
 
 -- ---- equalities
 
--- where all equalities are met, both sides have the same values at their columns
+-- if all equalities are met, both sides have the same values at their columns
 pub equal_reads :
     (equalities : List Equality) (first second : List Value) → All (IsEqual first second) equalities
     → (read : List Value) × ReadsColumns (columns_on Left equalities) first read × ReadsColumns (columns_on Right equalities) second read

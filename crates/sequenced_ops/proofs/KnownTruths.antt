@@ -1,4 +1,4 @@
--- What the values of a row from a position on decide of a condition.
+-- The values of a row from a position on, and the truth of a condition that they decide.
 use Rattle.std.proofs.Common.{◌≡◌, ◌<◌, ◌≤◌, ◌-◌, ◌++◌, ◌∷◌, [], ℕ, zero, suc, Bool, List}
 use Rattle.std.proofs.Common.{true, false, length, get_or, refl, sym, ◌∙◌, ap}
 use Rattle.std.proofs.Common.{arith}
@@ -17,7 +17,7 @@ use Rattle.history_model.specs.OrdinaryQuery.{meets_all}
 use Rattle.sequenced_ops.specs.Operations.{Cond}
 use Rattle.sequenced_ops.specs.Planning.{IsTestTruth, IsTruth, RulesOut}
 
--- ---- where a value is in a row
+-- ---- the place of a value in a row
 
 pub get-left
     : (xs ys : List Value) (p : ℕ) → p < length xs → slice_get (xs ++ ys) p ≡ slice_get xs p

@@ -1,6 +1,6 @@
 pub mod Logic
 pub mod Fronts
-pub mod Standing
+pub mod TwoRows
 pub mod Sweeps
 pub mod Sides
 pub mod InnerSweeps

@@ -1,4 +1,4 @@
--- The steps of a join.
+-- The steps of a join: a pair that is pushed, and pairs that the conditions rule out.
 use Rattle.std.proofs.Common.{◌≡◌, ◌<ℤ◌, ◌≤ℤ◌, ◌↔◌, ℤ, List, [], ◌∷◌, ◌++◌, sym, ◌∙◌, subst, inl, inr, ◌⊎◌, arith}
 use Rattle.std.specs.List.{Contains}
 use Rattle.std.proofs.lemmas.Int.{ints, by_lt_z}
@@ -14,7 +14,7 @@ use Rattle.sequenced_ops.specs.declared.keyed.Side.{Side}
 use Rattle.sequenced_ops.specs.declared.keyed.Side.TheVariants.{Left, Right}
 use Rattle.sequenced_ops.specs.Operations.{Cond}
 use Rattle.sequenced_ops.specs.Joining.{Adds, CanMeet, InPairsWith, PairHolds, SidedPair, HasExpired}
-use Rattle.sequenced_ops.proofs.Standing.{holds-push}
+use Rattle.sequenced_ops.proofs.TwoRows.{holds-push}
 
 -- ---- one pair
 
@@ -35,7 +35,7 @@ pair_pushed rows first second new same values days day vs = (
 
 -- ---- the pairs of one row
 
--- what is added already; of the pairs that can meet the conditions none lacks but those with what
+-- the rows added already; of the pairs that can meet the conditions none lacks but those with what
 -- is left
 pub record PairsLeft (conjuncts : List Cond) (old : List PeriodRow) (row : KeyedRow) (active : List KeyedRow) (rows : List PeriodRow) (rest : List KeyedRow) : Type 0 where
   pub kept : (day : ℤ) (vs : List Value) → InSnapshot old day vs → InSnapshot rows day vs

@@ -1,4 +1,4 @@
--- The steps of a projection.
+-- The steps of a projection: a row is pushed over the values at its positions.
 use Rattle.std.proofs.Common.{◌↔◌, ◌⊎◌, ◌++◌, inl, inr, ℕ, ℤ, List, [], ◌∷◌, subst}
 use Rattle.period_core.specs.DaySets.{InPeriod}
 use Rattle.period_core.specs.declared.value.Value.{Value}
@@ -7,9 +7,9 @@ use Rattle.period_core.specs.declared.row.PeriodRow.{PeriodRow}
 use Rattle.temporal_model.specs.Snapshot.{InSnapshot}
 use Rattle.sequenced_ops.specs.Operations.{ReadsColumns}
 use Rattle.sequenced_ops.proofs.Keys.{same_read}
-use Rattle.sequenced_ops.proofs.Standing.{holds-push}
+use Rattle.sequenced_ops.proofs.TwoRows.{holds-push}
 
--- these are the values of the row at the positions, and it holds on the day
+-- the values of the row at the positions, on a day on which it holds
 abbrev pub IsProjectedOn : List ℕ → PeriodRow → ℤ → List Value → Type 0
 IsProjectedOn columns row day read = ReadsColumns columns row.values read × InPeriod row.period day
 

@@ -1,4 +1,4 @@
--- The steps of a selection.
+-- The steps of a selection: a row is accepted or refused.
 use Rattle.std.proofs.Common.{◌≡◌, ◌↔◌, ◌++◌, ℕ, ℤ, Bool, true, false, IsTrue, List, Option, None, Some, MatchOption, [], ◌∷◌, refl, sym, subst, inl, inr, ◌⊎◌, append-nil}
 use Rattle.catalog_core.specs.Conditions.{meets}
 use Rattle.period_core.specs.DaySets.{InPeriod}
@@ -8,9 +8,9 @@ use Rattle.period_core.proofs.PeriodEnds.{days_from, days_to, day_in}
 use Rattle.temporal_model.specs.Snapshot.{InSnapshot}
 use Rattle.sequenced_ops.specs.Operations.{AddsProjection, Cond, InProjection, InSelection, ReadsColumns}
 use Rattle.sequenced_ops.specs.Sweeping.{RowHolds}
-use Rattle.sequenced_ops.proofs.Standing.{holds-cons, holds-nil, holds-push}
+use Rattle.sequenced_ops.proofs.TwoRows.{holds-cons, holds-nil, holds-push}
 
--- what is kept already, and the selection of what is left, are the selection of all
+-- the rows kept already, and the selection of the rest, are the selection of all
 abbrev pub SelectionLeft : Cond → List PeriodRow → List PeriodRow → List PeriodRow → Type 0
 SelectionLeft condition rows kept rest =
     (day : ℤ) (vs : List Value) → ((InSnapshot kept day vs ⊎ InSelection condition rest day vs) ↔ InSelection condition rows day vs)
@@ -50,7 +50,7 @@ abbrev pub IsAcceptedOn : (List Value → Bool) → List ℕ → PeriodRow → �
 IsAcceptedOn accepts columns row day read =
     InPeriod row.period day × IsTrue (accepts row.values) × ReadsColumns columns row.values read
 
--- what is selected already is the projection of the selection of what is done
+-- the rows selected already are the projection of the selection of those that are done
 abbrev pub SelectedSoFar
     : (List Value → Bool) → List ℕ → List PeriodRow → List PeriodRow → Type 0
 SelectedSoFar accepts columns selected done =

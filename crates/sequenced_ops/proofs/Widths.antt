@@ -1,8 +1,8 @@
--- How many values rows have.
+-- The number of values of each row of a list, as rows are added.
 use Rattle.std.proofs.Common.{◌≡◌, ◌++◌, ◌∷◌, [], ℕ, List, length, sym, ◌∙◌, ap, inl, inr}
 use Rattle.period_core.specs.declared.row.PeriodRow.{PeriodRow}
 use Rattle.sequenced_ops.specs.Planning.{HasWidth}
-use Rattle.sequenced_ops.proofs.Standing.{holds-nil, holds-push}
+use Rattle.sequenced_ops.proofs.TwoRows.{holds-nil, holds-push}
 
 pub width_none : (width : ℕ) → HasWidth width []
 width_none width day values h = absurd (holds-nil day values h)

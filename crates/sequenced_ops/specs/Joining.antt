@@ -45,7 +45,7 @@ column_on Right equality = equality.right
 abbrev pub columns_on : Side → List Equality → List ℕ
 columns_on side equalities = map (column_on side) equalities
 
--- how values are kept as a key: a first integer stands apart, and a first date has its number
+-- the key of values: a first integer is kept apart, and a first date has its number
 -- there too; of values of one length no two have the same key
 abbrev pub key_of : List Value → JoinKey
 key_of [] = record { lead = pos 0; rest = [] }
@@ -73,7 +73,7 @@ PairHolds first second day values =
     (first.key ≡ second.key) × InPeriod first.period day × InPeriod second.period day
     × (first.values.now ++ second.values.now ≡ values)
 
--- the same of a row of this side and another, that of the left side first
+-- a pair of a row of this side and another, that of the left side first
 abbrev pub SidedPair : Side → KeyedRow → KeyedRow → ℤ → List Value → Type 0
 SidedPair Left row other day values = PairHolds row other day values
 SidedPair Right row other day values = PairHolds other row day values
@@ -107,7 +107,7 @@ pub record Adds (conjuncts : List Cond) (InSet : ℤ → List Value → Type 0)
 
 -- ---- the order of a sweep
 
--- b does not come before a by their keys, nor by their first days where their keys are the same
+-- b does not come before a by their keys, nor by their first days if their keys are the same
 abbrev pub Follows : KeyedRow → KeyedRow → Type 0
 Follows a b =
     (is_lt (key_cmp b.key a.key) ≡ false) × (a.key ≡ b.key → a.period.start ≤ℤ b.period.start)

@@ -1,4 +1,4 @@
--- What each operator gives on each day, by what its arguments hold on that day.
+-- The values that each operator gives on each day, by its arguments' values on that day.
 use Rattle.std.specs.Prelude.{◌≡◌, ◌++◌, ◌↔◌, ◌⊎◌, ℕ, ℤ, Bool, List, Option, Some, IsTrue, map}
 use Rattle.std.specs.Prelude.{MatchOption, option_to_list, slice_get}
 use Rattle.period_core.specs.DaySets.{InPeriod}

@@ -1,4 +1,4 @@
--- What a join gives of the pairs that it finds, and of which pairs it has done so.
+-- The output of a join, of the pairs that it finds, and the pairs of which it is given.
 use Rattle.std.specs.Prelude.{◌≡◌, ◌++◌, ℕ, ℤ, List, []}
 use Rattle.period_core.specs.declared.row.PeriodRow.{PeriodRow}
 use Rattle.period_core.specs.declared.value.Value.{Value}
@@ -11,7 +11,7 @@ use Rattle.sequenced_ops.specs.declared.outputs.JoinOutput.TheVariants.{Pairs, C
 abbrev pub InSelected : List Cond → List ℕ → List PeriodRow → ℤ → List Value → Type 0
 InSelected conjuncts columns rows = InProjection columns (InMeeting conjuncts rows)
 
--- what is given of these pairs: they themselves, or what is selected of them
+-- the output for these pairs: they themselves, or the values selected of them
 abbrev pub IsGiven : List Cond → JoinOutput → List PeriodRow → List PeriodRow → Type 0
 IsGiven conjuncts Pairs pairs rows = pairs ≡ rows
 IsGiven conjuncts (Columns columns) pairs rows =
@@ -23,7 +23,7 @@ abbrev pub GivesSome
 GivesSome Are conjuncts output rows =
     (pairs : List PeriodRow) × Are pairs × IsGiven conjuncts output pairs rows
 
--- what has been selected: nothing yet where the pairs themselves are given
+-- the values that have been selected: none yet if the pairs themselves are given
 abbrev pub IsSelected : List Cond → JoinOutput → List PeriodRow → List PeriodRow → Type 0
 IsSelected conjuncts Pairs done selected = done ≡ []
 IsSelected conjuncts (Columns columns) done selected =

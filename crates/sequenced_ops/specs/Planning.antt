@@ -1,5 +1,5 @@
--- How a select's rows come about: references are joined from left to right, and rows that can no
--- longer meet the conditions go.
+-- The rows of a select, step by step: references are joined from left to right, and rows that can
+-- no longer meet the conditions go.
 use Rattle.std.specs.Prelude.{◌≡◌, ◌++◌, ◌+◌, ◌<◌, ℕ, ℤ, Bool, IsTrue, List, length}
 use Rattle.std.specs.List.{All}
 use Rattle.period_core.specs.DaySets.{InPeriod}
@@ -16,13 +16,13 @@ use Rattle.sequenced_ops.specs.declared.equalities.Equality.{Equality}
 
 -- ---- rows of which some values are known: those from a position on
 
--- this is the truth of the condition, whatever comes before the values and after them
+-- the truth of the condition, whatever comes before the values and after them
 abbrev pub IsTruth : ℕ → List Value → Cond → Bool → Type 0
 IsTruth start values condition truth =
     (first rest : List Value) → length first ≡ start
     → meets condition (first ++ (values ++ rest)) ≡ truth
 
--- the same of a comparison
+-- the truth of a comparison, whatever comes before the values and after them
 abbrev pub IsTestTruth : ℕ → List Value → CompareValues → Bool → Type 0
 IsTestTruth start values test truth =
     (first rest : List Value) → length first ≡ start
@@ -43,7 +43,7 @@ pub record IsPruned (conjuncts : List Cond) (start : ℕ) (InSet : ℤ → List 
       → InSet day values → IsTrue (meets_all conjuncts (first ++ (values ++ rest)))
       → InSnapshot rows day values
 
--- ---- how many values rows have
+-- ---- the number of values of rows
 
 -- each list of values that the rows hold has `width` values
 abbrev pub HasWidth : ℕ → List PeriodRow → Type 0
@@ -89,7 +89,7 @@ IsMeetingOn conjuncts columns row day read =
     InPeriod row.period day × IsTrue (meets_all conjuncts row.values)
     × ReadsColumns columns row.values read
 
--- what is joined so far, then the references that are left, where each condition holds
+-- the rows joined so far, then the references that are left, if each condition holds
 abbrev pub InJoined
     : List (List PeriodRow) → List Cond → List PeriodRow → List QueryReference → ℤ → List Value
     → Type 0

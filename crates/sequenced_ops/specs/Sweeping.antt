@@ -1,4 +1,4 @@
--- Where one row lies from another in a sweep over ordered rows without overlaps.
+-- The place of one row relative to another in a sweep over ordered rows without overlaps.
 use Rattle.std.specs.Prelude.{◌≡◌, ◌↔◌, ◌⊎◌, ◌≤ℤ◌, ◌<ℤ◌, ℤ, List, AllPairs}
 use Rattle.std.specs.declared.cmp.Ordering.TheVariants.{Less}
 use Rattle.period_core.specs.Order.{values_cmp}
@@ -37,7 +37,7 @@ IsRelativePosition Before row other = Precedes row other
 IsRelativePosition After row other = Precedes other row
 IsRelativePosition Overlapping row other = Overlaps row other
 
--- what is left of a list holds what the list does of each row that this one precedes, on its days
+-- the rest of a list holds the values of the list in each row that this one precedes, on its days
 abbrev pub KeepsLater : PeriodRow → List PeriodRow → List PeriodRow → Type 0
 KeepsLater row others left =
     (later : PeriodRow) → Precedes row later

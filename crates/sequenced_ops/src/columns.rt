@@ -7,7 +7,7 @@ ghost use Rattle.sequenced_ops.specs.Operations.{ReadsColumns};
 use period_core::{Memory, Value, Values};
 use std::alloc::Global;
 
-/// The values at these positions: `None` where the row has no value at one of them.
+/// The values at these positions: `None` if the row has no value at one of them.
 pub fn read_columns(
     alloc: Global,
     columns: &[usize],

@@ -118,8 +118,8 @@ fn meet<'a>(
     Ok(left)
 }
 
-// What is given of the pairs of rows of both sides that have the same key and a day, where none
-// comes before an earlier one, but of those that the conditions rule out.
+// The output for the pairs of rows of both sides that have the same key and a day, if none
+// comes before an earlier one, but for those that the conditions rule out.
 fn pairs_of(
     alloc: Global,
     conjuncts: &[Cond],
@@ -151,8 +151,8 @@ fn pairs_of(
     given(alloc, conjuncts, output, selected, pairs)
 }
 
-/// What is given of the pairs of rows that have the same values at the columns of each equality,
-/// but of pairs that the conditions rule out; without equalities, of all other pairs. A pair has on
+/// Joins rows that have the same values at the columns of each equality,
+/// but for pairs that the conditions rule out; without equalities, all other pairs. A pair has on
 /// each day the values of a left row, followed by those of a right row.
 pub fn join_equal(
     alloc: Global,

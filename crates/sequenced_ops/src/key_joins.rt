@@ -21,7 +21,7 @@ use sql_statements::{Comparison, Tree};
 use std::alloc::Global;
 use std::slice;
 
-/// How many values each row has, if all have the same number.
+/// The number of values of each row, if all have the same number.
 fn width_of(rows: &[PeriodRow]) -> Option<usize>
     ensures { IfSome result (λ width. HasWidth width rows.now) }
 {
@@ -115,8 +115,8 @@ fn equalities_of(
     Ok(keys)
 }
 
-/// What is given of the pairs of both sides, but of those that differ in an equality between the
-/// sides, and of those that the conditions rule out. Rows of the right side that the conditions
+/// Joins the rows of both sides, but for pairs that differ in an equality between the
+/// sides, and for those that the conditions rule out. Rows of the right side that the conditions
 /// rule out by themselves are left out before.
 fn join_by_keys(
     alloc: Global,
@@ -148,9 +148,9 @@ fn join_by_keys(
     join_equal(alloc, rows, others, keys.as_slice(), conjuncts, output)
 }
 
-/// What is given of what is joined so far with one more reference's rows, but of pairs that cannot
-/// meet the conditions. Positions say what is of which side only where all rows of each side have
-/// the same number of values; otherwise it goes by no equality.
+/// Joins the next reference's rows to those joined so far, dropping pairs that cannot
+/// meet the conditions. Equalities are used only if all rows of each side have the same number of
+/// values.
 pub fn join_next(
     alloc: Global,
     conjuncts: &[Cond],
@@ -171,7 +171,7 @@ pub fn join_next(
 }
 
 /// On each day the values of a left row, followed by those of a right row, for all pairs of rows
-/// that meet the condition. Where it asks that a column of the left side equals one of the right,
+/// that meet the condition. If it asks that a column of the left side equals one of the right,
 /// as a whole or in its outermost AND, only pairs of rows with the same values there are looked at.
 pub fn join(
     alloc: Global,

@@ -10,12 +10,12 @@ use crate::columns::read_columns;
 use period_core::{Memory, Period, PeriodRow, Value, Values};
 use std::alloc::Global;
 
-/// The side of a join from which a row comes.
+/// The side of a join that a row is of.
 #[derive(Clone, Copy, PartialEq, Eq, PartialOrd, Ord)]
 pub enum Side {
-    /// Its values come first.
+    /// The values of the row come first.
     Left,
-    /// Its values come second.
+    /// The values of the row come second.
     Right,
 }
 
@@ -36,13 +36,13 @@ pub struct KeyedRow<'a> {
     pub key: JoinKey,
     /// The days on which it holds.
     pub period: Period,
-    /// The side from which it comes.
+    /// The side that it is of.
     pub side: Side,
     /// All its values.
     pub values: &'a Values,
 }
 
-/// A key of this lead, whose rest is the values at these positions: `None` where one is not there.
+/// A key of this lead, whose rest is the values at these positions: `None` if one is not there.
 fn read_rest(
     alloc: Global,
     lead: &i64,
@@ -59,7 +59,7 @@ fn read_rest(
     Ok(Some(JoinKey { lead: *lead, rest }))
 }
 
-/// The key of a row whose key has its values at these positions: `None` where one is not there.
+/// The key of a row whose key has its values at these positions: `None` if one is not there.
 fn read_key(alloc: Global, columns: &[usize], values: &[Value]) -> Result<Option<JoinKey>, Memory>
     ensures { IfOk result (λ found. MatchOption found
         ((read : List ColumnValue) → ReadsColumns columns.now values.now read → ⊥)

@@ -1,5 +1,5 @@
-//! What a join gives of the pairs that it finds: they themselves, or a select list's values, taken
-//! a batch at a time, so that memory follows the answer and not the pairs.
+//! The output of a join, of the pairs that it finds: they themselves, or a select list's values,
+//! taken a batch at a time, so that memory follows the answer and not the pairs.
 
 ghost use Rattle.std.specs.Prelude.{◌⊎◌, List, IfOk};
 ghost use Rattle.period_core.specs.declared.row.PeriodRow.{PeriodRow as Row};
@@ -14,7 +14,7 @@ use coalesce_core::coalesce;
 use period_core::{Memory, PeriodRow};
 use std::alloc::Global;
 
-/// What a join gives.
+/// The output of a join.
 #[derive(Clone, Copy)]
 pub enum JoinOutput<'a> {
     /// The pairs, but those that the conditions rule out.
@@ -23,13 +23,13 @@ pub enum JoinOutput<'a> {
     Columns(&'a [usize]),
 }
 
-/// How many pairs are found before they are selected.
+/// The number of pairs that are found before they are selected.
 const BATCH: usize = 4_096;
 
 /// Up to this many selected rows are not coalesced.
 const FEW: usize = 49_152;
 
-/// The rows, coalesced where they are many and have no room for `more` others. There is then room
+/// The rows, coalesced if they are many and have no room for `more` others. There is then room
 /// for as many again, so that coalescing takes no more time than the sort of the answer does.
 fn with_room(alloc: Global, rows: Vec<PeriodRow>, more: usize) -> Result<Vec<PeriodRow>, Memory>
     ensures { IfOk result (λ roomy. Equivalent rows.items roomy.items) }
@@ -43,7 +43,7 @@ fn with_room(alloc: Global, rows: Vec<PeriodRow>, more: usize) -> Result<Vec<Per
     Ok(shorter)
 }
 
-/// What was selected before, and the selection of these pairs.
+/// The rows selected before, and the selection of the pairs.
 fn select_more(
     alloc: Global,
     conjuncts: &[Cond],
@@ -85,7 +85,7 @@ pub fn select_batch(
     }
 }
 
-/// What is given of all pairs: of those that have been selected, and of those that are left.
+/// The output for all pairs: for those that have been selected, and for those that are left.
 pub fn given(
     alloc: Global,
     conjuncts: &[Cond],

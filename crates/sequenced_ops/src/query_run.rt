@@ -33,7 +33,7 @@ fn positions_of(alloc: Global, items: &[AnswerColumn]) -> Result<Vec<usize>, Mem
     Ok(columns)
 }
 
-/// What is joined so far, joined with the references that are left, from left to right: the values
+/// The rows joined so far, joined with the references that are left, from left to right: the values
 /// at these positions of the rows that meet all conditions.
 fn join_all(
     alloc: Global,

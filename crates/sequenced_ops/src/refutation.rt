@@ -1,4 +1,4 @@
-//! What is known of a condition where only some of a row's values are there.
+//! The truth of a condition, as far as some of a row's values decide it.
 
 ghost use Rattle.std.specs.Prelude.{◌≡◌, ◌++◌, List, IfSome, Some, length, true, false};
 ghost use Rattle.period_core.specs.declared.value.Value.{Value as ColumnValue};
@@ -9,7 +9,7 @@ use catalog_core::{Comparand, CompareValues, Cond, is_allowed};
 use period_core::Value;
 use sql_statements::Tree;
 
-/// The value of a side in a row that has these values from a position on: `None` where the row's
+/// The value of a side in a row that has these values from a position on: `None` if the row's
 /// other values may have it.
 fn known_value<'a>(side: &'a Comparand, start: usize, values: &'a [Value]) -> Option<&'a Value>
     ensures { IfSome result (λ value. (first rest : List ColumnValue) → length first ≡ start
@@ -26,7 +26,7 @@ fn known_value<'a>(side: &'a Comparand, start: usize, values: &'a [Value]) -> Op
     }
 }
 
-/// Whether the comparison holds of such a row: `None` where the other values may decide it.
+/// Whether the comparison holds of such a row: `None` if the other values may decide it.
 fn known_test(test: &CompareValues, start: usize, values: &[Value]) -> Option<bool>
     ensures { IfSome result (IsTestTruth start values.now test.now) }
 {
@@ -39,7 +39,7 @@ fn known_test(test: &CompareValues, start: usize, values: &[Value]) -> Option<bo
     Some(is_allowed(test.comparison, left.cmp(right)))
 }
 
-/// Whether the condition holds of such a row: `None` where the other values may decide it.
+/// Whether the condition holds of such a row: `None` if the other values may decide it.
 fn known_truth(condition: &Cond, start: usize, values: &[Value]) -> Option<bool>
     ensures { IfSome result (IsTruth start values.now condition.now) }
 {

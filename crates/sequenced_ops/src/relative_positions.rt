@@ -1,25 +1,26 @@
-//! Where one row lies from another, by their values and then by their days.
+//! The place of one row relative to another, by their values and then by their days.
 
 ghost use Rattle.sequenced_ops.specs.Sweeping.{IsRelativePosition};
 
+use coalesce_core::compare_values;
 use period_core::PeriodRow;
 use std::cmp::Ordering;
 
-/// Where a row lies from another.
+/// The place of a row relative to another.
 pub enum RelativePosition {
-    /// It has lesser values, or the same and ends before the other begins.
+    /// The values are lesser, or the same and the row ends before the other begins.
     Before,
-    /// It has greater values, or the same and begins where the other has ended.
+    /// The values are greater, or the same and the row begins where the other has ended.
     After,
-    /// It has the same values, and a day of the other.
+    /// The values are the same, and a day is common.
     Overlapping,
 }
 
-/// Where the first row lies from the second.
+/// The place of the first row relative to the second.
 pub fn relative_position(row: &PeriodRow, other: &PeriodRow) -> RelativePosition
     ensures { IsRelativePosition result row.now other.now }
 {
-    match row.values.cmp(&other.values) {
+    match compare_values(row.values.as_slice(), other.values.as_slice()) {
         Ordering::Less => RelativePosition::Before,
         Ordering::Greater => RelativePosition::After,
         Ordering::Equal => {

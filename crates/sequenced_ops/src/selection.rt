@@ -88,7 +88,8 @@ pub fn select_meeting(
         SnapshotsAre (InProjection columns.now (InMeeting conjuncts.now rows.now))
         selected.items) }
 {
-    let mut selected = Vec::new(alloc);
+    // Few do not meet them: what a condition rules out by itself does not come here.
+    let mut selected = Vec::with_capacity(alloc, rows.len())?;
     for row in rows {
         push_meeting(alloc, &mut selected, row, conjuncts, columns)?;
     }

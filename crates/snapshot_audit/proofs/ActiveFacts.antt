@@ -70,7 +70,7 @@ AreActive-skip rows active day row none are other = (
   ],
 )
 
--- ---- their values
+-- ---- the values of rows
 
 -- one more row's values
 pub InActive-more :
@@ -99,7 +99,7 @@ active_snapshot rows active day are values = (
       (r, c, ap (λ (x : PeriodRow). x.values) same ∙ is),
 )
 
--- ---- what references see
+-- ---- the values that references see
 
 pub active_at :
     (seen : ActiveLists) (place : ℕ) (active : Vec (Bor PeriodRow)) → place < length seen → active ≡ get_or seen place active

@@ -54,7 +54,7 @@ adds_more A M B N C O old mid new first second split one two = record {
   ];
 }
 
--- the same rows by weaker sets
+-- adding to weaker sets
 pub adds_weaker :
     (A M C O : Sets) (old new : List PeriodRow) → ((day : ℤ) (row : List Value) → A day row → C day row)
     → ((day : ℤ) (row : List Value) → O day row → M day row) → Adds A M old new → Adds C O old new
@@ -131,7 +131,7 @@ module _ (select : Select) (output : CombinedOutput) (first second : PeriodRow) 
     all = λ day row (can, (a, b, k)). snapshot_last rows added day row (one row k) (both day a b);
   }
 
--- what is kept is determined
+-- the kept values are determined
 pub kept_one : (select : Select) (output : CombinedOutput) (values row other : List Value) → IsKept select output values row → IsKept select output values other → row ≡ other
 kept_one select Front values row other p q = sym p ∙ q
 kept_one select SelectList values row other p q = same_values row other (sym p.1 ∙ q.1)
@@ -178,14 +178,14 @@ module _ (May Must : KeyedEntry → KeyedEntry → Sets) (others : List KeyedEnt
       ])
       one two
 
--- a pair that holds on a day, where the other's row starts no earlier: it starts on a day of the entry
+-- a pair that holds on a day, if the other's row starts no earlier: it starts on a day of the entry
 sided_days :
     (select : Select) (output : CombinedOutput) (side : EntrySide) (entry other : KeyedEntry) (day : ℤ) (row : List Value)
     → Sided (InMeetingPair select output) side entry other day row → InPeriod entry.row.now.period day × InPeriod other.row.now.period day
 sided_days select output First entry other day row (can, (a, b, its)) = (a, b)
 sided_days select output Second entry other day row (can, (a, b, its)) = (b, a)
 
--- what is added for the partners is added for all others that begin within the entry
+-- all others that begin within the entry are added with the partners
 pub partners_are_all :
     (select : Select) (output : CombinedOutput) (side : EntrySide) (entry : KeyedEntry) (others partners : List KeyedEntry) (rows new : List PeriodRow)
     → HasPeriod entry → All HasPeriod others

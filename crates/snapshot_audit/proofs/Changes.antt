@@ -131,7 +131,7 @@ pub record IsLastUpTo (days : List ℤ) (day last : ℤ) : Type 0 where
   pub upto : last ≤ℤ day
   pub none : (other : ℤ) → Contains days other → last <ℤ other → day <ℤ other
 
--- there is one where some day of an ascending list is no later
+-- there is one if some day of an ascending list is no later
 pub last_upto :
     (first : ℤ) (days : List ℤ) (day : ℤ) → AllPairs (λ a b. a <ℤ b) (first ∷ days) → first ≤ℤ day
     → (last : ℤ) × IsLastUpTo (first ∷ days) day last

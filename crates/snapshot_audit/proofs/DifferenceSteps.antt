@@ -164,7 +164,7 @@ lists_step (both operator left right) lists day prev values next none =
     (lists_step left lists day prev values next none)
     (lists_step right (drop (select_count left) lists) day prev values next (λ rows c. none rows (contains_drop (select_count left) lists rows c)))
 
--- nothing is held where no list holds anything
+-- nothing is held if no list holds anything
 lists_empty :
     (query : Query) (lists : List (List PeriodRow)) (day : ℤ) (values : List Value)
     → ((rows : List PeriodRow) → InSnapshot rows day values → ⊥) → InLists query lists day values → ⊥
@@ -244,7 +244,8 @@ any_changes (list ∷ lists) day values = elim (changes_on list day values) [
 module _
     (query : Query) (lists : List (List PeriodRow)) (answer : List PeriodRow) (result : Option ℤ)
     (checked : Checks query lists answer (ChangesOnAny answer lists) None result) where
-  -- what agrees on a day does so on the next, if nothing of the values changes or it is checked
+  -- two sets that agree on a day do so on the next, if nothing of the values changes or it is
+  -- checked
   agrees_next :
       (day prev : ℤ) (values : List Value) → prev +ℤ pos 1 ≡ day → IsDay day → IsBefore result day → AgreesIn query lists answer prev values
       → AgreesIn query lists answer day values

@@ -101,7 +101,7 @@ meeting-counted = record {
 
 -- ---- sets
 
--- what two rows hold is there once in the set
+-- values that two rows hold are there once in the set
 held_twice-once : ListsSet (InSnapshot (early ∷ whole ∷ []) (pos 2)) (seven ∷ [])
 held_twice-once = record {
   ascending = λ i j d lt below. absurd (omega arith);
@@ -142,7 +142,7 @@ within-no_change_day (inr (rows, c, (row, inside, ends))) =
       | inr is ↦ let end : pos 5 ≡ pos 3 = ap (λ (r : PeriodRow). r.period.end) one ∙ is in omega (arith, ints)
     ]
 
--- an answer that goes on for four days more than the table differs first on day 5
+-- an answer that continues for four days more than the table differs first on day 5
 long-differs : IsFirstDifference (InSnapshot (whole ∷ [])) (long ∷ []) (pos 5)
 long-differs = record {
   is_day = (omega (arith, ints), omega (arith, ints));

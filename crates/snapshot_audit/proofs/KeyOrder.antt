@@ -29,7 +29,7 @@ use Rattle.snapshot_audit.proofs.Staggering.{before_cases, before_less, before_s
 abbrev some : Value → Option Value
 some v = Some v
 
--- what is read is determined
+-- a read key is determined
 pub same_key : (columns : List ℕ) (values key other : List Value) → Reads columns values key → Reads columns values other → key ≡ other
 same_key columns values key other p q = same_values key other (sym p ∙ q)
 
@@ -163,9 +163,9 @@ by_key_from columns rows entries sorted are moved up = record {
   all = λ r key c reads. let (e, there, is) = are.all r key c reads in (e, Contains-permutation entries sorted e moved there, is);
 }
 
--- ---- where entries are found
+-- ---- the place of an entry
 
--- whether the entry comes before those of this key that begin on the day or later
+-- whether the entry precedes those of this key that begin on the day or later
 abbrev pub entry_before : List Value → ℤ → KeyedEntry → Bool
 entry_before key day entry = comes_before entry.key entry.period.start key day
 
@@ -188,13 +188,13 @@ before_in_order key day entries all i j d upto inside by = elim (cases_lt i j) [
   | inr not_less ↦ let is : j ≡ i = omega arith in subst (λ k. entry_before key day (get_or entries k d) ≡ true) is by
 ]
 
--- an entry of the key that begins on a day from the start and before the end stands between both points
-pub stands_between :
+-- an entry of the key that begins on a day from the start and before the end is between both points
+pub entry_between :
     (entry : KeyedEntry) (entries : List KeyedEntry) (first last : ℕ)
     → IsPartitionPoint (λ e. entry_before entry.key entry.period.start e ≡ true) (λ e. entry_before entry.key entry.period.start e ≡ false) entries first
     → IsPartitionPoint (λ e. entry_before entry.key entry.period.end e ≡ true) (λ e. entry_before entry.key entry.period.end e ≡ false) entries last
     → (other : KeyedEntry) → BeginsWithin entry other → (k : ℕ) → k < length entries → get_or entries k other ≡ other → (first ≤ k) × (k < last)
-stands_between entry entries first last from to other (key, starts, ends) k inside at = (
+entry_between entry entries first last from to other (key, starts, ends) k inside at = (
   elim (cases_lt k first) [
     | inl less ↦ absurd (
         let by : entry_before entry.key entry.period.start other ≡ true = subst (λ e. entry_before entry.key entry.period.start e ≡ true) at (from.0 k other (omega arith) less) in

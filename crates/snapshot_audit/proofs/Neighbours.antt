@@ -40,7 +40,7 @@ gap-trans a b c p q = (
       omega (arith, ints),
 )
 
--- each row comes before the next one with a gap, up to this place
+-- each row precedes the next one with a gap, up to this place
 abbrev pub GapsBelow : List PeriodRow → ℕ → Type 0
 GapsBelow rows n = (k : ℕ) (d : PeriodRow) → k + 1 < n → IsBeforeWithGap (get_or rows k d) (get_or rows (k + 1) d)
 

@@ -14,7 +14,7 @@ use Rattle.snapshot_audit.specs.Differences.{AddsRowsOf, AreRowsOf, InLists, InS
 use Rattle.snapshot_audit.specs.Staggered.{AreStaggered}
 use Rattle.snapshot_audit.specs.Verdicts.{AgreesAlways}
 
--- what a set operator makes of sets that are alike
+-- a set operator over sets that are alike
 pub combined_alike :
     (operator : SetOperator) (A B C D : List Value → Type 0) (values : List Value) → (A values ↔ C values) → (B values ↔ D values)
     → (InCombined operator A B values ↔ InCombined operator C D values)

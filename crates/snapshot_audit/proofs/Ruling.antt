@@ -1,4 +1,4 @@
--- What the first values of a combined row decide: the value at a position, and an equality.
+-- The first values of a combined row decide the value at a position, and an equality.
 use Rattle.std.proofs.Common.{◌≡◌, ◌<◌, ◌≤◌, ◌-◌, ◌+◌, ℕ, zero, suc, false, List, [], ◌∷◌, ◌++◌, Option, Some, length, get_or, refl, sym, ◌∙◌, ap, ap₂, arith, length-append}
 use Rattle.std.specs.Prelude.{slice_get}
 use Rattle.std.specs.Ordering.{is_eq}
@@ -29,7 +29,7 @@ in_front front next rest p value inside is =
     ∙ slice_get-get_or front p value inside
     ∙ ap Some (sym is)
 
--- a value of those behind them
+-- a value of those after them
 pub in_next :
     (front next rest : List Value) (p q : ℕ) (value : Value) → length front ≤ p → q ≡ p - length front → q < length next
     → value ≡ get_or next q value → slice_get ((front ++ next) ++ rest) p ≡ Some value

@@ -91,7 +91,7 @@ rest_none Sees select front row = (
   λ (rest, none, its). subst (λ vs. IsSelected select vs row) (append-nil front) (subst (λ r. IsSelected select (front ++ r) row) none its),
 )
 
--- a combined row goes on with a row of the first reference, and then with those of the others
+-- a combined row continues with a row of the first reference, and then with those of the others
 pub rest_more :
     (seen : ActiveLists) (select : Select) (reference : QueryReference) (more : List QueryReference) (front row : List Value)
     → (InRests (VisibleInActive seen) select more front (active_for seen reference) row
@@ -114,7 +114,7 @@ rest_more seen select reference more front row = (
   ),
 )
 
--- what is added already
+-- the values that are added already
 abbrev pub HasRests : ActiveLists → Select → List QueryReference → List Value → List (List Value) → RowReferences → List (List Value) → Type 0
 HasRests seen select more front old active rows =
     (row : List Value) → (Contains rows row ↔ (Contains old row ⊎ InRests (VisibleInActive seen) select more front active row))

@@ -26,7 +26,7 @@ first_alone values first others up none c = elim (Contains-cons_cases first othe
   | inr more ↦ absurd (none first (Contains-here first others) (AllPairs-head (λ a b. values_cmp a b ≡ Less) first others up values more))
 ]
 
--- what of the right set is left: the rest is less than all that comes
+-- the right set is done up to the rest: all before that is less than each that comes
 pub record IsDoneWith (right others rest : List (List Value)) : Type 0 where
   pub ascending : IsAscending others
   pub inside : (other : List Value) → Contains others other → Contains right other
@@ -58,7 +58,7 @@ done_with_more right others next rest values up is by = record {
   ];
 }
 
--- the next values are in the right set where they are among the others that are left
+-- the next values are in the right set if they are among the others that are left
 pub among_right :
     (right others next rest : List (List Value)) (values : List Value) → IsDoneWith right others (values ∷ rest)
     → AreNotBelow values others next → (Contains next values ↔ Contains right values)
@@ -142,7 +142,7 @@ module _ (Keeps : List Value → Type 0) (left right : List (List Value)) where
   picked_none up down = record { all = refl; ascending = up; done_with = done_with_none right left down; kept = kept_none Keeps left }
 
   module _ (done was rest others next set : List (List Value)) (values : List Value) where
-    -- the next values are in the right set where they are among the others that are left
+    -- the next values are in the right set if they are among the others that are left
     pub picked_among :
         was ≡ values ∷ rest → AreNotBelow values others next → ArePicked Keeps left right done was others set
         → (Contains next values ↔ Contains right values)
@@ -207,7 +207,7 @@ passed_more values first others after less is = record {
   ];
 }
 
--- where the first is not less, none is
+-- if the first is not less, none is
 pub none_below_from :
     (values first : List Value) (after : List (List Value)) → (values_cmp first values ≡ Less → ⊥) → IsAscending (first ∷ after)
     → NoneBelow values (first ∷ after)
@@ -216,7 +216,7 @@ none_below_from values first after bound up other c less = elim (Contains-cons_c
   | inr more ↦ bound (values_cmp_total.trans first other values (AllPairs-head (λ a b. values_cmp a b ≡ Less) first after up other more) less)
 ]
 
--- what a set operator makes of two lists is what it makes of their sets
+-- a set operator over two lists gives a list of the operator over their sets
 pub combined_lists :
     (operator : SetOperator) (InLeft InRight : List Value → Type 0) (left right set : List (List Value)) → ListsSet InLeft left
     → ListsSet InRight right → ListsSet (InCombined operator (Contains left) (Contains right)) set

@@ -48,7 +48,7 @@ certified_from_sound rows ws all = record {
       (all j (get_or rows j d) below (slice_get-get_or rows j d below)).anew.first (get_or rows i d, earlier, same);
 }
 
--- the witnesses are those of the rows, where there are no spare ones
+-- the witnesses are those of the rows, if there are no spare ones
 pub witnesses_from_sound :
     (rows : List PeriodRow) (ws : List Witness) → SoundBelow rows ws (length rows) → length ws ≤ length rows
     → ws ≡ map witness_of rows
@@ -77,7 +77,7 @@ pub not_true : (b : Bool) → (b ≡ true → ⊥) → not b ≡ true
 not_true true h = absurd (h refl)
 not_true false h = refl
 
--- what is held on a day is held on the same day by another name
+-- values that are held on a day are held on the same day by another name
 pub held_then :
     (rows : List PeriodRow) (values : List Value) {a b : ℤ} → InSnapshot rows a values → a ≤ℤ b → b ≤ℤ a
     → InSnapshot rows b values

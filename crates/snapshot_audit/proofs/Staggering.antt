@@ -24,7 +24,7 @@ use Rattle.temporal_model.proofs.Members.{Contains-here, Contains-there, Contain
 use Rattle.temporal_model.proofs.Snapshots.{Equivalent-append, held, in_snapshot}
 use Rattle.snapshot_audit.specs.Staggered.{AreStaggered, IsStaggered, LastHolds, comes_before}
 
--- what is read at a place is a member
+-- a row that is read at a place is a member
 member_at : (rows : List PeriodRow) (k : ℕ) (row : PeriodRow) → slice_get rows k ≡ Some row → Contains rows row
 member_at rows k row there =
     let inside : k < length rows = slice_get_within rows k row there in
@@ -35,7 +35,7 @@ not_less_itself values less = let tie : values_cmp values values ≡ Equal = val
 
 -- ---- the order of two rows
 
--- the first comes no later by its values, and by its start where they are the same
+-- the first comes no later by its values, and by its start if they are the same
 abbrev pub InRowOrder : PeriodRow → PeriodRow → Type 0
 InRowOrder a b = (values_cmp a.values b.values ≡ Less) ⊎ ((a.values ≡ b.values) × (a.period.start ≤ℤ b.period.start))
 
@@ -78,7 +78,7 @@ staggered-trans a b c (inl p) (inr q) = inl (subst (λ v. values_cmp a.values v 
 staggered-trans a b c (inr p) (inl q) = inl (subst (λ v. values_cmp v c.values ≡ Less) (sym p.0) q)
 staggered-trans a b c (inr p) (inr q) = inr (p.0 ∙ q.0, omega (arith, ints, p.1, q.1), omega (arith, ints, p.2, q.2))
 
--- what the last of some rows stands before, all of them do
+-- a row after the last of some rows is after all of them
 staggered_push :
     (rows : List PeriodRow) (row : PeriodRow)
     → ((last : PeriodRow) → slice_get rows (length rows - 1) ≡ Some last → IsStaggered last row)
@@ -174,7 +174,7 @@ kept_all sorted done rest kept none old =
     let all : done ≡ sorted = sym (append-nil done) ∙ ap (λ l. done ++ l) (sym is) ∙ old.all in
     (old.staggered, subst (λ l. Equivalent l kept) all old.same)
 
--- ---- where a row is found
+-- ---- the place of a row
 
 -- the parts of `comes_before`
 pub before_same :
@@ -191,7 +191,7 @@ pub before_greater :
 before_greater values others start day less =
     ap (λ o. match_ordering o true (int_lt start day) false) (values_cmp_total.antisymm values others ∙ ap ordering_reverse less)
 
--- what comes before does so by its values, or has the same and starts before the day
+-- a row is before by its values, or has the same and starts before the day
 pub before_cases :
     (values others : List Value) (start day : ℤ) → comes_before values start others day ≡ true
     → (values_cmp values others ≡ Less) ⊎ ((values ≡ others) × (start <ℤ day))

@@ -1,4 +1,4 @@
--- From the answer's days to what a verdict says.
+-- The verdict of an audit: an answer that agrees on its change days agrees on all days.
 use Rattle.std.proofs.Common.{◌≡◌, ◌∷◌, ℤ, ℕ, List, length, sym, subst}
 use Rattle.period_core.specs.declared.value.Value.{Value}
 use Rattle.period_core.specs.declared.row.PeriodRow.{PeriodRow}

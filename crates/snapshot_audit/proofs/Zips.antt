@@ -41,7 +41,7 @@ zip_weaker R S step [] (y ∷ ys) r = absurd r
 zip_weaker R S step (x ∷ xs) [] r = absurd r
 zip_weaker R S step (x ∷ xs) (y ∷ ys) r = (step x y r.0, zip_weaker R S step xs ys r.1)
 
--- at each place, where the relation holds of the defaults too
+-- at each place, if the relation holds of the defaults too
 pub zip_at :
     {A B : Type 0} (R : A → B → Type 0) (d : A) (e : B) → R d e → (xs : List A) (ys : List B) (place : ℕ)
     → AllZip R xs ys → R (get_or xs place d) (get_or ys place e)
@@ -60,7 +60,7 @@ zip_map R f [] (y ∷ ys) r = absurd r
 zip_map R f (x ∷ xs) [] r = absurd r
 zip_map R f (x ∷ xs) (y ∷ ys) r = (r.0, zip_map R f xs ys r.1)
 
--- what a member gives is among what the members give
+-- the value of a member is among the values of the members
 pub contains_map : {A B : Type 0} (f : A → B) (xs : List A) (x : A) → Contains xs x → Contains (map f xs) (f x)
 contains_map f xs x (k, inside, at) =
     let same = length-map xs f in

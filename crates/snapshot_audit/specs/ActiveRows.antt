@@ -42,7 +42,7 @@ active_lists seen = map (λ (active : Vec (Bor PeriodRow)). active.items) seen
 abbrev pub active_for : ActiveLists → QueryReference → RowReferences
 active_for seen reference = slice_index_or (active_lists seen) reference.place []
 
--- so each reference sees the values of these rows
+-- each reference sees the values of its active rows
 abbrev pub VisibleInActive : ActiveLists → VisibleRows
 VisibleInActive seen reference values = InActive (active_for seen reference) values
 

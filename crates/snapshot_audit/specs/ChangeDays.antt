@@ -6,7 +6,7 @@ use Rattle.period_core.specs.declared.row.PeriodRow.{PeriodRow}
 use Rattle.temporal_model.specs.Snapshot.{NoChangeBetween}
 use Rattle.catalog_core.specs.query.Queries.{Query, references_of, rows_for}
 
--- what the references of the query see, in the order of the text
+-- the rows that the references of the query see, in the order of the text
 abbrev pub seen_lists : Query → List (List PeriodRow) → List (List PeriodRow)
 seen_lists query tables = map (rows_for tables) (references_of query)
 
@@ -23,7 +23,7 @@ EndsAmong lists day = (rows : List PeriodRow) × Contains lists rows × EndsOn r
 abbrev pub IsChangeDay : List (List PeriodRow) → ℤ → Type 0
 IsChangeDay lists day = (first_day ≡ day) ⊎ EndsAmong lists day
 
--- these days and no others, in ascending order, each once
+-- the change days of the lists and no others, in ascending order, each once
 pub record AreChangeDays (lists : List (List PeriodRow)) (days : List ℤ) : Type 0 where
   pub ascending : AllPairs (λ a b. a <ℤ b) days
   pub members : (day : ℤ) → (Contains days day ↔ IsChangeDay lists day)
@@ -33,7 +33,7 @@ abbrev pub NoneChanges : List (List PeriodRow) → ℤ → ℤ → Type 0
 NoneChanges lists first second =
     (rows : List PeriodRow) → Contains lists rows → NoChangeBetween rows first second
 
--- daily sets stay the same where nothing changes in the lists
+-- daily sets stay the same if nothing changes in the lists
 abbrev pub IsConstantBetween : List (List PeriodRow) → (ℤ → List Value → Type 0) → Type 0
 IsConstantBetween lists InSet =
     (first second : ℤ) → first ≤ℤ second → NoneChanges lists first second

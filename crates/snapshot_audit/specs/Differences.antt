@@ -15,12 +15,12 @@ use Rattle.snapshot_audit.specs.Verdicts.{AgreesAlways}
 
 -- ---- a query by the rows of its selects
 
--- how many selects a query has
+-- the number of selects that a query has
 abbrev pub select_count : Query → ℕ
 select_count (one select) = 1
 select_count (both operator left right) = select_count left + select_count right
 
--- the query's set on a day, where the first of these lists are those of its selects
+-- the query's set on a day, if the first of these lists are those of its selects
 abbrev pub InLists : Query → List (List PeriodRow) → ℤ → List Value → Type 0
 InLists (one select) lists day values = InSnapshot (slice_index_or lists 0 []) day values
 InLists (both operator left right) lists day values =
@@ -34,7 +34,7 @@ is_combined Union first second = first || second
 is_combined Except first second = first && not second
 is_combined Intersect first second = first && second
 
--- what the select gives on a day
+-- the rows of a select on a day
 abbrev pub InSelectOn : List (List PeriodRow) → Select → ℤ → List Value → Type 0
 InSelectOn tables select day row = InSelect (VisibleInTables tables day) select row
 
@@ -47,7 +47,7 @@ AreRowsOf tables (both operator left right) lists =
     (first second : List (List PeriodRow)) × (lists ≡ first ++ second)
     × AreRowsOf tables left first × AreRowsOf tables right second
 
--- the new lists are the old ones, followed by those of the query
+-- the new lists are the old ones, followed by the query's
 abbrev pub AddsRowsOf : List (List PeriodRow) → Query → List (List PeriodRow)
     → List (List PeriodRow) → Type 0
 AddsRowsOf tables query old new =
@@ -55,7 +55,7 @@ AddsRowsOf tables query old new =
 
 -- ---- differences
 
--- the answer has the values on the day exactly where the query's set has them
+-- the answer has the values on the day exactly if the query's set has them
 abbrev pub AgreesIn : Query → List (List PeriodRow) → List PeriodRow → ℤ → List Value → Type 0
 AgreesIn query lists answer day values =
     InSnapshot answer day values ↔ InLists query lists day values
@@ -76,13 +76,13 @@ ChangesOn rows day values =
     (row : PeriodRow) × Contains rows row × (row.values ≡ values)
     × ((row.period.start ≡ day) ⊎ (row.period.end ≡ day))
 
--- the same of the answer's rows or one of the lists
+-- on this day the answer's rows or one of the lists change in these values
 abbrev pub ChangesOnAny : List PeriodRow → List (List PeriodRow) → ℤ → List Value → Type 0
 ChangesOnAny answer lists day values =
     ChangesOn answer day values
     ⊎ ((rows : List PeriodRow) × Contains lists rows × ChangesOn rows day values)
 
--- these values on this day
+-- one list of values on one day
 abbrev pub IsAt : ℤ → List Value → ℤ → List Value → Type 0
 IsAt day values other others = (day ≡ other) × (values ≡ others)
 

@@ -1,4 +1,4 @@
--- When a row of a list and its witness are sound, and the first that is not.
+-- Sound rows of a list, with their witnesses, and the first that is not.
 use Rattle.std.specs.Prelude.{◌≡◌, ◌<◌, ◌≤◌, ◌+◌, ◌⊎◌, ◌-ℤ◌, ℕ, pos, List, Some, length, take}
 use Rattle.std.specs.Prelude.{Contains, slice_get}
 use Rattle.period_core.specs.declared.row.PeriodRow.{PeriodRow}
@@ -35,7 +35,7 @@ IsUnsoundAt rows witnesses place =
     (row : PeriodRow) × (slice_get rows place ≡ Some row) × (IsSound rows witnesses place row → ⊥)
 
 -- the number, from 1, of the first row that is not sound,
--- or one more than there are rows, where all are sound and only witnesses are spare
+-- or one more than there are rows, if all are sound and only witnesses are spare
 pub record IsFirstFault (rows : List PeriodRow) (witnesses : List Witness) (number : ℕ)
     : Type 0 where
   pub place : ℕ

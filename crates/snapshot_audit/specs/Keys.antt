@@ -8,7 +8,7 @@ use Rattle.period_core.specs.declared.row.PeriodRow.{PeriodRow}
 use Rattle.snapshot_audit.specs.declared.keys.KeyedEntry.{KeyedEntry}
 use Rattle.snapshot_audit.specs.declared.shared_columns.SharedColumns.{SharedColumns}
 
--- the values have a value at each of these positions, and the key is these
+-- the values have a value at each of the positions, and the key is these
 abbrev pub Reads : List ℕ → List Value → List Value → Type 0
 Reads columns values key = map (slice_get values) columns ≡ map Some key
 
@@ -16,14 +16,14 @@ Reads columns values key = map (slice_get values) columns ≡ map Some key
 abbrev pub HasPeriod : KeyedEntry → Type 0
 HasPeriod entry = entry.row.now.period ≡ entry.period
 
--- the key of the first comes before that of the second, or it is the same, and the first starts no
+-- the key of the first precedes that of the second, or it is the same, and the first starts no
 -- later
 abbrev pub IsInOrder : KeyedEntry → KeyedEntry → Type 0
 IsInOrder entry other =
     (values_cmp entry.key other.key ≡ Less)
     ⊎ ((entry.key ≡ other.key) × (entry.period.start ≤ℤ other.period.start))
 
--- it is so of each entry and each later one
+-- each entry precedes each later one
 abbrev pub AreInOrder : List KeyedEntry → Type 0
 AreInOrder = AllPairs IsInOrder
 
@@ -45,7 +45,7 @@ BeginsWithin entry other =
 
 -- ---- the columns of both sides
 
--- where a row of `width` values, one of `more` and the values that follow them are together as
+-- if a row of `width` values, one of `more` and the values that follow them are together as
 -- `IsSo` says, what both sides read the same in the old columns they do in the new ones
 abbrev pub ReadsMore : ℕ → ℕ → (List Value → Type 0) → SharedColumns → SharedColumns → Type 0
 ReadsMore width more IsSo old new =

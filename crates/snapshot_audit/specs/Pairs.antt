@@ -1,4 +1,4 @@
--- What is kept of pairs of rows that hold on the same days.
+-- Pairs of rows that hold on the same days, and the values that are kept of them.
 use Rattle.std.specs.Prelude.{◌≡◌, ◌++◌, ◌⊎◌, ◌≤ℤ◌, ℕ, ℤ, List, Contains, length}
 use Rattle.period_core.specs.DaySets.{InPeriod}
 use Rattle.period_core.specs.declared.value.Value.{Value}
@@ -23,20 +23,20 @@ pub record Adds (InMay InMust : ℤ → List Value → Type 0) (old new : List P
       → (InSnapshot old day row ⊎ InMay day row)
   pub all : (day : ℤ) (row : List Value) → InMust day row → InSnapshot new day row
 
--- what is kept of two rows that both hold on the day
+-- the values that are kept of two rows that both hold on the day
 abbrev pub InPair : Select → CombinedOutput → PeriodRow → PeriodRow → ℤ → List Value → Type 0
 InPair select output first second day row =
     InPeriod first.period day × InPeriod second.period day
     × IsKept select output (first.values ++ second.values) row
 
--- the same of two rows that can meet the conditions
+-- the values that are kept of two rows that can meet the conditions
 abbrev pub InMeetingPair : Select → CombinedOutput → PeriodRow → PeriodRow → ℤ → List Value → Type 0
 InMeetingPair select output first second day row =
     CanMeet select (first.values ++ second.values) × InPair select output first second day row
 
 -- ---- of entries
 
--- a set of a pair, where the entry's row comes first or second
+-- a set of a pair, if the entry's row is first or second
 abbrev pub Sided : (PeriodRow → PeriodRow → ℤ → List Value → Type 0)
     → EntrySide → KeyedEntry → KeyedEntry → ℤ → List Value → Type 0
 Sided InBoth First entry other = InBoth entry.row.now other.row.now
@@ -54,7 +54,7 @@ abbrev pub InAny : (KeyedEntry → KeyedEntry → ℤ → List Value → Type 0)
 InAny InBoth entries others day row =
     (entry : KeyedEntry) × Contains entries entry × InEach InBoth entry others day row
 
--- the same where the other has the entry's key, and starts no earlier
+-- the other has the entry's key, and starts no earlier
 abbrev pub Begun : (KeyedEntry → KeyedEntry → ℤ → List Value → Type 0)
     → KeyedEntry → KeyedEntry → ℤ → List Value → Type 0
 Begun InBoth entry other day row =
@@ -70,7 +70,7 @@ AreShared select rows others first second =
     → CanMeet select (row.values ++ other.values)
     → (key : List Value) × Reads first row.values key × Reads second other.values key
 
--- these columns are read as the same key in each two lists, of `width` and of `more` values, that
+-- columns that are read as the same key in each two lists, of `width` and of `more` values, that
 -- can meet the conditions
 abbrev pub ReadSame : Select → ℕ → ℕ → SharedColumns → Type 0
 ReadSame select width more columns =

@@ -22,7 +22,7 @@ abbrev pub InRest : VisibleRows → Select → List QueryReference → List Valu
 InRest Sees select references front row =
     (rest : List Value) × InProduct Sees references rest × IsSelected select (front ++ rest) row
 
--- the same where the values of one of these rows come next
+-- the values of one of the rows come next
 abbrev pub InRests : VisibleRows → Select → List QueryReference → List Value → RowReferences
     → List Value → Type 0
 InRests Sees select references front active row =
@@ -36,7 +36,7 @@ abbrev pub CanMeet : Select → List Value → Type 0
 CanMeet select front =
     (rest : List Value) × IsTrue (meets_all select.conjuncts (front ++ rest))
 
--- what is kept of a combined row: its values, or the select list's row of it if it meets every ON
+-- the values kept of a combined row: its own, or the select list's row of it if it meets every ON
 -- and WHERE
 abbrev pub IsKept : Select → CombinedOutput → List Value → List Value → Type 0
 IsKept select Front values row = values ≡ row

@@ -20,7 +20,7 @@ abbrev pub NoneBelow : List Value → List (List Value) → Type 0
 NoneBelow values others =
     (other : List Value) → Contains others other → values_cmp other values ≡ Less → ⊥
 
--- the elements of a list in ascending order, each once, where only equal elements tie
+-- the elements of a list in ascending order, each once, if only equal elements tie
 pub record IsSortedOnce {X : Type 0} (cmp : X → X → Ordering) (items once : List X) : Type 0 where
   pub ascending : AllPairs (λ a b. cmp a b ≡ Less) once
   pub members : IsAntisymmetric cmp → (x : X) → (Contains once x ↔ Contains items x)

@@ -16,7 +16,7 @@ IsStaggered row other =
     ⊎ ((row.values ≡ other.values) × (row.period.start ≤ℤ other.period.start)
     × (row.period.end <ℤ other.period.end))
 
--- it is so of each row and each later one
+-- each row is staggered with each later one
 abbrev pub AreStaggered : List PeriodRow → Type 0
 AreStaggered = AllPairs IsStaggered
 

@@ -1,4 +1,4 @@
--- What a verdict says of an answer.
+-- Verdicts on an answer.
 use Rattle.std.specs.Prelude.{◌≡◌, ◌↔◌, ◌∷◌, ◌<ℤ◌, ℤ, ℕ, List, length}
 use Rattle.period_core.specs.declared.value.Value.{Value}
 use Rattle.period_core.specs.declared.row.PeriodRow.{PeriodRow}
@@ -19,7 +19,7 @@ HaveSameMembers InOne InOther = (values : List Value) → (InOne values ↔ InOt
 abbrev pub AgreesOn : (ℤ → List Value → Type 0) → List PeriodRow → ℤ → Type 0
 AgreesOn InSet rows day = HaveSameMembers (InSnapshot rows day) (InSet day)
 
--- it is so on every day that a period can cover
+-- the answer agrees on every day that a period can cover
 abbrev pub AgreesAlways : (ℤ → List Value → Type 0) → List PeriodRow → Type 0
 AgreesAlways InSet rows = (day : ℤ) → IsDay day → AgreesOn InSet rows day
 
@@ -47,7 +47,7 @@ pub record IsConfirmed (InSet : ℤ → List Value → Type 0) (tables : List (L
   pub change_days : AreChangeDays (rows ∷ tables) days
   pub counted : length days ≡ count
 
--- what each verdict says: a difference comes before a fault of the witnesses
+-- the meaning of each verdict: a difference precedes a fault of the witnesses
 abbrev pub IsVerdict : (ℤ → List Value → Type 0) → List (List PeriodRow) → List PeriodRow
     → List Witness → Verdict → Type 0
 IsVerdict InSet tables rows witnesses (Agrees count) = IsConfirmed InSet tables rows witnesses count

@@ -15,7 +15,7 @@ use period_core::{Answer, Memory};
 use std::alloc::Global;
 
 /// Compares the answer's snapshot with the query's set on each change day, and then checks the
-/// witnesses. Each reference of the query sees the list in its place; none, where there is no such
+/// witnesses. Each reference of the query sees the list in its place; none, if there is no such
 /// list.
 pub fn audit(
     alloc: Global,

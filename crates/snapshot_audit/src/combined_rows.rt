@@ -10,7 +10,7 @@ use catalog_core::{AnswerColumn, Cond, holds};
 use period_core::{Memory, Value, Values};
 use std::alloc::Global;
 
-/// What is kept of the combined rows.
+/// The values that are kept of combined rows.
 #[derive(Clone, Copy)]
 pub(crate) enum CombinedOutput {
     /// All values, to which those of further references come.
@@ -31,7 +31,7 @@ fn meets_all(conjuncts: &[Cond], values: &[Value]) -> bool
     true
 }
 
-// The values of the select list: `None` where one of its items has no value at its position.
+// The values of the select list: `None` if one of its items has no value at its position.
 fn item_values(
     alloc: Global,
     items: &[AnswerColumn],
@@ -51,7 +51,7 @@ fn item_values(
     Ok(Some(Values::from_vec(row)))
 }
 
-/// The select list's row of a combined row: `None` where that does not meet the conditions.
+/// The select list's row of a combined row: `None` if that does not meet the conditions.
 pub(crate) fn selected(
     alloc: Global,
     select: &Select,
@@ -85,7 +85,7 @@ pub(crate) fn side_by_side(
     Ok(Values::from_vec(both))
 }
 
-/// What is kept of a combined row, if anything.
+/// The values that are kept of a combined row, if any.
 pub(crate) fn kept(
     alloc: Global,
     select: &Select,

@@ -106,7 +106,7 @@ fn earliest(
     first
 }
 
-// The same of all lists.
+// The earliest difference of all lists.
 fn earliest_of_all(query: &Query, lists: &[Items<PeriodRow>], answer: &[PeriodRow]) -> Option<Day>
     requires lists { All AreStaggered lists.now }
     requires answer { AreStaggered answer.now }

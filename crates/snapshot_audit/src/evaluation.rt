@@ -32,8 +32,8 @@ pub(crate) fn evaluated(
     }
 }
 
-/// What the ordinary query gives on a day, where each reference sees that day's snapshot of the
-/// list in its place: in ascending order, each list of values once.
+/// The set that the ordinary query gives on a day, if each reference sees that day's snapshot of
+/// the list in its place: in ascending order, each list of values once.
 pub fn eval_on(
     alloc: Global,
     query: &Query,

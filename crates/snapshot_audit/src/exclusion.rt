@@ -13,7 +13,7 @@ use sql_statements::{Comparison, Tree};
 use std::cmp::Ordering;
 
 // The value at a position of the combined rows that begin with these values and then those: `None`
-// where it comes later.
+// if it comes later.
 fn value_among<'x>(position: usize, front: &'x [Value], next: &'x [Value]) -> Option<&'x Value>
     ensures { IfSome result (λ value. (rest : List ColumnValue) →
         slice_get ((front.now ++ next.now) ++ rest) position ≡ Some value.now) }
@@ -28,7 +28,7 @@ fn value_among<'x>(position: usize, front: &'x [Value], next: &'x [Value]) -> Op
     None
 }
 
-// The value of a side of a comparison in these combined rows: `None` where it comes later.
+// The value of a side of a comparison in these combined rows: `None` if it comes later.
 fn side_among<'x>(side: &'x Comparand, front: &'x [Value], next: &'x [Value]) -> Option<&'x Value>
     ensures { IfSome result (λ value. (rest : List ColumnValue) →
         side_value side.now ((front.now ++ next.now) ++ rest) ≡ Some value.now) }

@@ -18,7 +18,7 @@ pub(crate) fn has_gaps(rows: &[PeriodRow]) -> bool
     true
 }
 
-// Whether the first row comes before the second, and a day lies between them if they have the same
+// Whether the first row precedes the second, and a day lies between them if they have the same
 // values.
 fn is_before_with_gap(first: &PeriodRow, second: &PeriodRow) -> bool
     ensures { IsTrue result ↔ IsBeforeWithGap first.now second.now }

@@ -15,12 +15,12 @@ use catalog_core::resolved::Select;
 use period_core::{Memory, PeriodRow};
 use std::alloc::Global;
 
-/// The side of a join from which an entry comes.
+/// The side of a join that an entry is of.
 #[derive(Clone, Copy)]
 pub(crate) enum EntrySide {
-    /// Its values come first.
+    /// The values of the row come first.
     First,
-    /// Its values come second.
+    /// The values of the row come second.
     Second,
 }
 
@@ -98,7 +98,7 @@ fn add_partners(
 // Up to this many rows are kept as they come.
 const FEW: usize = 65_536;
 
-// The rows, without those that lie within another where they are many and have no room for `more`
+// The rows, without those that lie within another if they are many and have no room for `more`
 // others. There is then room for as many again, so that this takes no more time than the pairs do,
 // and memory follows what the rows hold and not the pairs.
 fn with_room(alloc: Global, rows: Vec<PeriodRow>, more: usize) -> Result<Vec<PeriodRow>, Memory>
@@ -142,8 +142,8 @@ fn add_begun(
     Ok(added)
 }
 
-/// What is kept of the pairs of rows on the days of both. One of a pair begins on a day of the
-/// other, so the pairs are found where one begins.
+/// The values that are kept of the pairs of rows on the days of both. One of a pair begins on a day
+/// of the other, so the pairs are found where one begins.
 pub(crate) fn joined(
     alloc: Global,
     select: &Select,

@@ -12,7 +12,7 @@ use period_core::{Day, Memory, Period, PeriodRow, Value, Values};
 use std::alloc::Global;
 use std::cmp::Ordering;
 
-/// A row with the values by which it is joined. They stand in the order of these values, and those
+/// A row with the values by which it is joined. They are in the order of these values, and those
 /// of the same values in the order of their periods.
 #[derive(Drop, PartialEq, Eq, PartialOrd, Ord)]
 pub(crate) struct KeyedEntry<'a> {
@@ -24,7 +24,7 @@ pub(crate) struct KeyedEntry<'a> {
     pub(crate) row: &'a PeriodRow,
 }
 
-// The values at these positions: `None` where there is none at one of them.
+// The values at these positions: `None` if there is none at one of them.
 fn read(alloc: Global, columns: &[usize], values: &[Value]) -> Result<Option<Values>, Memory>
     ensures { IfOk result (λ found. MatchOption found
         ((key : List ColumnValue) → Reads columns.now values.now key → ⊥)
@@ -40,7 +40,7 @@ fn read(alloc: Global, columns: &[usize], values: &[Value]) -> Result<Option<Val
     Ok(Some(Values::from_vec(key)))
 }
 
-/// The rows that have values at these positions, in the order of these values and their periods.
+/// The rows that have values at the positions, in the order of these and of their periods.
 pub(crate) fn by_key<'a>(
     alloc: Global,
     columns: &[usize],
@@ -62,7 +62,7 @@ pub(crate) fn by_key<'a>(
     Ok(entries)
 }
 
-// Whether the entry comes before those of this key that begin on the day or later.
+// Whether the entry precedes all with this key that begin on the day or later.
 fn begins_before(entry: &KeyedEntry, key: &Values, day: Day) -> bool
     ensures { result ≡ comes_before entry.now.key entry.now.period.start key.now day }
 {
@@ -73,7 +73,7 @@ fn begins_before(entry: &KeyedEntry, key: &Values, day: Day) -> bool
     }
 }
 
-// How many entries come before those of this key that begin on the day or later.
+// The number of entries before all with this key that begin on the day or later.
 fn count_before(entries: &[KeyedEntry], key: &Values, day: Day) -> usize
     requires { AreInOrder entries.now }
     ensures inside { result ≤ length entries.now }

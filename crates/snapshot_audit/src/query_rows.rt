@@ -1,4 +1,4 @@
-//! What a query's selects give on each day, as rows over periods, and the query's set by them.
+//! The rows of a query's selects on each day, as rows over periods, and the query's set by them.
 
 ghost use Rattle.std.specs.Prelude.{◌≡◌, ◌↔◌, ◌++◌, All, IfOk, IsTrue, List, OnOk, drop};
 ghost use Rattle.period_core.specs.declared.row.PeriodRow.{PeriodRow as Row};
@@ -50,7 +50,7 @@ fn is_combined(operator: SetOperator, first: bool, second: bool) -> bool
     }
 }
 
-/// Whether the query's set on the day has the values, where the first of these lists are those of
+/// Whether the query's set on the day has the values, if the first of these lists are those of
 /// its selects; and the remaining lists.
 pub(crate) fn in_query<'l>(
     query: &Query,

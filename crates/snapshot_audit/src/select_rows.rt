@@ -1,4 +1,4 @@
-//! What a select gives on each day, as rows over periods.
+//! The rows of a select on each day, as rows over periods.
 
 ghost use Rattle.std.specs.Prelude.{◌≡◌, ◌↔◌, ◌<◌, ◌∷◌, ℤ, [], List, IfOk, length};
 ghost use Rattle.period_core.specs.Calendar.{first_day, last_day};

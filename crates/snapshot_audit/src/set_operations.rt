@@ -102,7 +102,7 @@ fn either(left: Vec<Values>, right: Vec<Values>) -> Result<Vec<Values>, Memory>
     sorted_once(both)
 }
 
-/// What the set operator makes of both sets, in ascending order, each list of values once.
+/// The set that the set operator gives of both sets, in ascending order, each list of values once.
 pub(crate) fn combined(
     alloc: Global,
     operator: SetOperator,

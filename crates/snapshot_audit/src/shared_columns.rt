@@ -1,4 +1,4 @@
-//! The columns by which two sides are joined: those of the equalities between them.
+//! The columns by which two sides are joined, as the equalities between them name them.
 
 ghost use Rattle.std.specs.Prelude.{◌≡◌, IfOk, IfSome, OnOk, true};
 ghost use Rattle.catalog_core.specs.Conditions.{compares, meets};
@@ -21,7 +21,7 @@ pub(crate) struct SharedColumns {
     pub(crate) second: Vec<usize>,
 }
 
-// How many values each row has, if all have the same number.
+// The number of values of each row, if all have the same number.
 fn width_of(rows: &[PeriodRow]) -> Option<usize>
     ensures { IfSome result (λ width. HaveWidth width rows.now) }
 {
@@ -108,7 +108,7 @@ fn columns_between(
 }
 
 /// The columns of the equalities between both sides among the conditions. Positions tell the side
-/// only where all rows of each side have the same number of values; else there are none.
+/// only if all rows of each side have the same number of values; else there are none.
 pub(crate) fn shared_columns(
     alloc: Global,
     select: &Select,

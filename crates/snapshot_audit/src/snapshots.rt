@@ -1,4 +1,4 @@
-//! What rows hold on a day.
+//! The rows that hold on a day.
 
 ghost use Rattle.std.specs.Prelude.{◌↔◌, IsTrue, IfOk};
 ghost use Rattle.temporal_model.specs.Snapshot.{InSnapshot};

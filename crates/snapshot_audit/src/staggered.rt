@@ -42,7 +42,7 @@ pub(crate) fn staggered(alloc: Global, rows: Vec<PeriodRow>) -> Result<Items<Per
     Ok(Items::from_vec(kept))
 }
 
-// Whether the row comes before these values, or has them and begins by the day.
+// Whether the row precedes these values, or has them and begins by the day.
 fn begins_by(row: &PeriodRow, values: &Values, day: Day) -> bool
     ensures { result ≡ comes_before row.now.values row.now.period.start values.now (day +ℤ pos 1) }
 {

@@ -1,8 +1,8 @@
-//! What an audit says.
+//! The verdict of an audit.
 
 use period_core::Day;
 
-/// What an audit says of an answer.
+/// The verdict of an audit on an answer.
 #[derive(Clone, Copy, Debug, PartialEq, Eq)]
 pub enum Verdict {
     /// On every day the answer's snapshot is the query's set, the answer is the shortest of its

@@ -12,10 +12,10 @@ use crate::gaps::has_gaps;
 use crate::snapshots::is_held_on;
 use period_core::{PeriodRow, Witness};
 
-/// `None` where each row has its witness and the list is the shortest of its snapshots. Otherwise
+/// `None` if each row has its witness and the list is the shortest of its snapshots. Otherwise
 /// the least number, from 1, of a row without a witness; or whose witness is not its first day and
 /// the day before; or whose values the list holds on the day before; or that shares values and
-/// first day with an earlier row. Where only witnesses are spare it is the number of rows plus 1.
+/// first day with an earlier row. If only witnesses are spare it is the number of rows plus 1.
 /// An answer in order is read twice; for any other list each row is compared with all others.
 pub fn check_witnesses(rows: &[PeriodRow], witnesses: &[Witness]) -> Option<usize>
     ensures faultless { IfNone result (IsFaultless rows.now witnesses.now) }

@@ -13,11 +13,11 @@ use Rattle.sql_front.proofs.Laws.{Any, Reads, reads_both, reads_built, reads_fix
 use Rattle.sql_front.proofs.Sorts.{Next, Sort, a_name, any_of, leads_optional, leads_sequence, reads_both_next, reads_choice_next, reads_enclosed_next, reads_next, reads_optional_next, sign, word}
 use Rattle.sql_front.proofs.NamesRead.{reads_name, reads_number, starts_name}
 
--- what closes a list
+-- the tokens that close a list
 abbrev pub closing : List Sort
 closing = sign (codes ")") ∷ []
 
--- what may follow an element
+-- the tokens that may follow an element
 abbrev pub after_element : List Sort
 after_element = sign (codes ",") ∷ closing
 
@@ -27,11 +27,11 @@ reads_length : Reads IsLength Any length_read
 unfolding length_read
 reads_length = reads_enclosed_next closing refl (reads_next closing reads_number)
 
--- what may follow GENERATED .. or its absence
+-- the tokens that may follow GENERATED .. or its absence
 abbrev after_generated : List Sort
 after_generated = word (codes "NOT") ∷ after_element
 
--- what may follow a type
+-- the tokens that may follow a type
 abbrev after_type : List Sort
 after_type = word (codes "GENERATED") ∷ after_generated
 
@@ -108,7 +108,7 @@ reads_row_end =
     reads_choice_next (word (codes "START") ∷ []) (word (codes "END") ∷ []) refl start end
     (reads_denotes Start (keyword (codes "START"))) (reads_denotes End (keyword (codes "END")))
 
--- ---- what follows a type
+-- ---- the words after a type
 
 reads_generated : Reads IsGenerated Any generated_read
 unfolding generated_read

@@ -1,4 +1,4 @@
--- Conditions and their tests, where so much room is left for parentheses.
+-- Conditions and their tests, if so much room is left for parentheses.
 use Rattle.std.proofs.Common.{◌≡◌, ℕ, zero, suc, false, List, refl, codes}
 use Rattle.sql_statements.specs.declared.statement.Comparison.{Comparison}
 use Rattle.sql_statements.specs.declared.statement.Comparison.TheVariants.{Equal, NotEqual, Less, LessOrEqual, Greater, GreaterOrEqual}
@@ -13,7 +13,7 @@ use Rattle.sql_front.specs.Builders.{all_of, any_of, column_reference_of, compar
 use Rattle.sql_front.specs.Grammar.{ConditionBelow, IsCondition, IsConjunction, IsFactor, IsTest, IsWhere}
 use Rattle.sql_front.proofs.ReadGrammar.{IsColumn, IsCompare, IsComparison, IsOperand, IsPeriodOperand, IsPredicate, IsRelation, IsStoredTest}
 use Rattle.std.specs.Str.{bytes_eq}
-use Rattle.sql_front.proofs.Levels.{Level, level_built, level_choice, level_closed, level_enclosed, level_enclosed_same, level_optional, level_preceded, level_separated, level_sequence, level_stands, plain_keyword, plain_symbol}
+use Rattle.sql_front.proofs.Levels.{Level, level_built, level_choice, level_closed, level_enclosed, level_enclosed_same, level_of_token, level_optional, level_preceded, level_separated, level_sequence, plain_keyword, plain_symbol}
 use Rattle.sql_front.proofs.LeavesRead.{level_date, level_literal}
 use Rattle.sql_front.proofs.NamesRead.{level_name, plain_comma}
 
@@ -26,7 +26,7 @@ level_operand : (k : ℕ) → Level k IsOperand IsOperand
 level_operand k = level_choice (level_built Column (level_column k)) (level_built Literal (level_literal k))
 
 level_sign : (k : ℕ) (c : Comparison) (s : List ℕ) → bytes_eq s (codes "(") ≡ false → bytes_eq s (codes ")") ≡ false → Level k (Denotes c (symbol s)) (Denotes c (symbol s))
-level_sign k c s e f = level_stands k c (plain_symbol s e f)
+level_sign k c s e f = level_of_token k c (plain_symbol s e f)
 
 level_comparison : (k : ℕ) → Level k IsComparison IsComparison
 level_comparison k =
@@ -48,7 +48,7 @@ level_period_operand k =
     (level_built Named (level_column k))
 
 level_word : (k : ℕ) (r : PeriodPredicate) (w : List ℕ) → Level k (Denotes r (keyword w)) (Denotes r (keyword w))
-level_word k r w = level_stands k r (plain_keyword w)
+level_word k r w = level_of_token k r (plain_keyword w)
 
 level_relation : (k : ℕ) → Level k IsRelation IsRelation
 level_relation k =

@@ -1,4 +1,4 @@
--- What stands in parentheses, and how a condition of the program is seen.
+-- Conditions in parentheses, and the program's conditions as the model has them.
 use Rattle.std.proofs.Common.{◌≡◌, ℕ, suc, ◌-◌, ◌<◌, List, ◌∷◌, map, None, refl, sym, ap, ◌∙◌, arith}
 use Rattle.std.specs.Global.{Box, Vec}
 use Rattle.sql_statements.specs.declared.tree.Tree as code

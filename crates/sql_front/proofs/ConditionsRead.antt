@@ -129,7 +129,7 @@ reads_compare_next ss e = reads_weaken (Next ss) (λ rest n. (tt, next_not ss (s
 pub starts_compare : Starts (any_of operand_firsts) IsCompare
 starts_compare = starts_built compare_of (starts_sequence (Sequence IsComparison IsOperand) starts_operand)
 
--- ---- what may follow
+-- ---- the tokens that may follow
 
 abbrev pub condition_ends : List Sort
 condition_ends = sign (codes ")") ∷ sign (codes ",") ∷ word (codes "JOIN") ∷ word (codes "INNER") ∷ word (codes "WHERE") ∷ word (codes "INTERSECT") ∷ word (codes "UNION") ∷ word (codes "EXCEPT") ∷ []

@@ -102,6 +102,7 @@ shallow (suc k) (t ∷ front) rest j e =
       ]
     ]
 
+-- tokens within the room for parentheses are not too deep
 pub some_shallow : (k : ℕ) (ts : List Lexeme) (j : ℕ) → room k ts ≡ Some j → IsDeeper k ts → ⊥
 some_shallow k ts j e d = absurd (omega (arith, d.3, shallow k d.0 d.1 j (ap (room k) (sym d.2) ∙ e)))
 
@@ -130,12 +131,12 @@ unfolding room
 room_end zero = refl
 room_end (suc k) = refl
 
--- it is too small where nothing is left of it, whether it was exceeded before or not
+-- the room is too small if nothing is left of it, whether it was exceeded before or not
 pub too_small : (exceeded : Bool) (o : Option ℕ) → o ≡ None → true ≡ (exceeded || is_none o)
 too_small true o e = refl
 too_small false o e = ap is_none (sym e)
 
--- where no tokens are left, it is only where it was exceeded before
+-- if no tokens are left, the depth is exceeded only if it was before
 pub no_more : (exceeded : Bool) (k : ℕ) → exceeded ≡ (exceeded || is_none (room k []))
 no_more true k = refl
 no_more false k = ap is_none (sym (room_end k))

@@ -1,4 +1,4 @@
--- The value of digits.
+-- The value of digits, read from the left, with its limit.
 use Rattle.std.proofs.Common.{◌≡◌, ℕ, suc, ◌+◌, ◌-◌, ◌*◌, ◌<◌, ◌≤◌, ◌^◌, List, [], ◌∷◌, ◌++◌, take, drop, get_or, length, refl, sym, ap, subst, ◌∙◌, zero-add, arith}
 use Rattle.std.proofs.Math.Nat.{pow-le-pow_right}
 use Rattle.std.proofs.lemmas.Grind.{pow_more}
@@ -35,7 +35,7 @@ digits_in_two k v value bytes front more first after is =
     ∙ ap (λ (n : ℕ). number_of_digits_after n (drop k bytes)) (sym is)
     ∙ ap (number_of_digits_after value) (sym after)
 
--- where some of them are above the limit, all are
+-- if a front of the digits is above the limit, all of them are
 pub front_above : (limit value total : ℕ) (more : List ℕ) → limit < value → total ≡ number_of_digits_after value more → limit < total
 front_above limit value total more above e = omega (arith, digits_grow value more, e)
 

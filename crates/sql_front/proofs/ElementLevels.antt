@@ -4,7 +4,7 @@ use Rattle.sql_statements.specs.declared.create.Generated.TheVariants.{Start, En
 use Rattle.sql_statements.specs.declared.create.TypeName.TheVariants.{Integer, Date, Varchar, Timestamp}
 use Rattle.sql_front.specs.Builders.{column_of, period_of, system_of, key_of, reference_of, table_of, column_element, period_element, system_element, key_element, reference_element}
 use Rattle.sql_front.proofs.ReadGrammar.{IsLength, IsType, IsGenerated, IsNotNull, IsColumnElement, IsPair, IsPeriodElement, IsSystemElement, IsWithoutOverlaps, IsKeyElement, IsReferenceList, IsReferenceElement, IsElement, IsVersioning, IsCreate}
-use Rattle.sql_front.proofs.Levels.{Level, level_built, level_choice, level_enclosed_same, level_fixed, level_optional, level_preceded, level_separated, level_sequence, level_stands, plain_keyword}
+use Rattle.sql_front.proofs.Levels.{Level, level_built, level_choice, level_enclosed_same, level_fixed, level_of_token, level_optional, level_preceded, level_separated, level_sequence, plain_keyword}
 use Rattle.sql_front.proofs.NamesRead.{level_name, level_number, plain_comma}
 
 -- ---- columns
@@ -14,8 +14,8 @@ level_length k = level_enclosed_same k level_number
 
 level_type : (k : ℕ) → Level k IsType IsType
 level_type k =
-    level_choice (level_stands k Integer (plain_keyword (codes "INTEGER")))
-    (level_choice (level_stands k Date (plain_keyword (codes "DATE")))
+    level_choice (level_of_token k Integer (plain_keyword (codes "INTEGER")))
+    (level_choice (level_of_token k Date (plain_keyword (codes "DATE")))
     (level_choice (level_built Varchar (level_preceded (plain_keyword (codes "VARCHAR")) (level_length k)))
     (level_choice (level_built Varchar (level_preceded (plain_keyword (codes "CHARACTER"))
     (level_preceded (plain_keyword (codes "VARYING")) (level_length k))))
@@ -25,8 +25,8 @@ level_generated : (k : ℕ) → Level k IsGenerated IsGenerated
 level_generated k =
     level_preceded (plain_keyword (codes "GENERATED")) (level_preceded (plain_keyword (codes "ALWAYS"))
     (level_preceded (plain_keyword (codes "AS")) (level_preceded (plain_keyword (codes "ROW"))
-    (level_choice (level_stands k Start (plain_keyword (codes "START")))
-    (level_stands k End (plain_keyword (codes "END")))))))
+    (level_choice (level_of_token k Start (plain_keyword (codes "START")))
+    (level_of_token k End (plain_keyword (codes "END")))))))
 
 level_not_null : (k : ℕ) → Level k IsNotNull IsNotNull
 level_not_null k = level_preceded (plain_keyword (codes "NOT")) (level_fixed k (plain_keyword (codes "NULL")))

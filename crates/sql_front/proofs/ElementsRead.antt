@@ -94,7 +94,7 @@ one_more : (x : List Lexeme) (a : List ℕ) (z : List Lexeme) → Preceded comma
 unfolding one_more_name
 one_more x a z h = rw ((starts_preceded comma IsName).at x a z h) (second_starts starts_name x a z h)
 
--- PERIOD with a name, behind a comma
+-- PERIOD with a name, after a comma
 abbrev IsLastPeriod : List Lexeme → List ℕ → Type 0
 IsLastPeriod = Preceded comma (Preceded (keyword (codes "PERIOD")) IsName)
 

@@ -1,4 +1,4 @@
--- The token with which a language begins.
+-- The first token of a language, by which the parser chooses among languages.
 use Rattle.std.proofs.Common.{◌≡◌, ℕ, Bool, true, false, List, [], ◌∷◌, ◌++◌, refl, sym, ap, ◌∙◌, inl, inr, ◌||◌, append_assoc}
 use Rattle.std.specs.Str.{bytes_eq}
 use Rattle.sql_statements.specs.Words.{folded}
@@ -115,7 +115,7 @@ starts_choice {a} {b} r s = record {
   ];
 }
 
--- what a list begins with decides
+-- the first token of a list decides
 pub begins_apart : {a b : Lexeme → Bool} → Apart a b → (z : List Lexeme) → begins a z ≡ true → begins b z ≡ false
 begins_apart r [] e = absurd cc
 begins_apart r (t ∷ z) e = r.apart t e

@@ -19,7 +19,7 @@ use Rattle.sql_statements.specs.Names.{upper}
 use Rattle.sql_front.specs.Builders.{column_of, period_of, system_of, key_of, reference_of, table_of, column_reference_of, compare_of, all_of, any_of, from_to_of, between_of, table_reference_of, join_of, chain_of, item_of, select_of, term_of, combined_of, dates_of, periods_of, contains_day_of, stored_of, rows_of, portion_of, assignment_of, update_of, delete_of, column_element, period_element, system_element, key_element, reference_element}
 use Rattle.sql_front.specs.Grammar.{ConditionBelow, IsCondition, IsConjunction, IsFactor, IsTest, IsWhere, IsName, IsNames, IsLength, IsType, IsGenerated, IsNotNull, IsColumnElement, IsPair, IsPeriodElement, IsSystemElement, IsWithoutOverlaps, IsKeyElement, IsReferenceList, IsReferenceElement, IsElement, IsVersioning, IsCreate, IsColumn, IsOperand, IsComparison, IsCompare, IsWindow, IsForWindow, IsNewName, IsReference, IsJoin, IsChain, IsItem, IsSelect, IsPrimary, IsIntersection, IsTerm, IsStep, QueryBelow, IsSequenced, IsPeriodOperand, IsRelation, IsPredicate, IsStoredTest, IsStored, IsInsert, IsPortion, IsAssignment, IsUpdate, IsDelete, IsAt, StatementBelow, comma, Spells}
 use Rattle.sql_front.proofs.LiteralReadings.{comma_no_minus, readings_clock_moment, readings_date, readings_literal, readings_moment, readings_number, readings_tuple}
-use Rattle.sql_front.proofs.Readings.{NoFault, Readings, keyword_no_minus, name_no_minus, symbol_no_minus, readings_built, readings_choice, readings_enclosed, readings_fixed, readings_one, readings_optional, readings_preceded, readings_preceded_or_not, readings_repetition, readings_separated, readings_sequence, readings_stands}
+use Rattle.sql_front.proofs.Readings.{NoFault, Readings, keyword_no_minus, name_no_minus, symbol_no_minus, readings_built, readings_choice, readings_enclosed, readings_fixed, readings_one, readings_optional, readings_preceded, readings_preceded_or_not, readings_repetition, readings_separated, readings_sequence, readings_of_token}
 
 -- a keyword, then a language
 module _ {A : Type 0} (w : List ℕ) {E S Y : Language A} where
@@ -43,11 +43,11 @@ a_word w = readings_fixed (keyword_no_minus w)
 
 -- a keyword that stands for a value
 word_for : {A : Type 0} (a : A) (w : List ℕ) → Readings (Denotes a (keyword w)) (Denotes a (keyword w)) (Denotes a (keyword w))
-word_for a w = readings_stands a (keyword_no_minus w)
+word_for a w = readings_of_token a (keyword_no_minus w)
 
 -- a sign that stands for a value
 sign_for : {A : Type 0} (a : A) (s : List ℕ) → bytes_eq s (codes "-") ≡ false → Readings (Denotes a (symbol s)) (Denotes a (symbol s)) (Denotes a (symbol s))
-sign_for a s e = readings_stands a (symbol_no_minus s e)
+sign_for a s e = readings_of_token a (symbol_no_minus s e)
 
 -- ---- names
 
@@ -177,19 +177,19 @@ module _ {T : Type 0} {E S Y : Language T} (tests : Readings E S Y) where
 
 -- ---- queries
 
-behind_at : (t : Lexeme) → keyword (codes "AT") t ≡ true → or_test (keyword (codes "AT")) (keyword (codes "OF")) t ≡ true
-behind_at t e = rw e refl
+either_at : (t : Lexeme) → keyword (codes "AT") t ≡ true → or_test (keyword (codes "AT")) (keyword (codes "OF")) t ≡ true
+either_at t e = rw e refl
 
 or_right : (x y : Bool) → y ≡ true → (x || y) ≡ true
 or_right true y e = refl
 or_right false y e = e
 
-behind_of : (t : Lexeme) → keyword (codes "OF") t ≡ true → or_test (keyword (codes "AT")) (keyword (codes "OF")) t ≡ true
-behind_of t e = or_right (keyword (codes "AT") t) (keyword (codes "OF") t) e
+either_of : (t : Lexeme) → keyword (codes "OF") t ≡ true → or_test (keyword (codes "AT")) (keyword (codes "OF")) t ≡ true
+either_of t e = or_right (keyword (codes "AT") t) (keyword (codes "OF") t) e
 
 readings_window : Readings (IsWindow exact) (IsWindow placeholders) (IsWindow any_value)
 readings_window =
-    readings_choice (readings_built AsOf (after (codes "AS") (readings_clock_moment behind_of)))
+    readings_choice (readings_built AsOf (after (codes "AS") (readings_clock_moment either_of)))
     (readings_choice (readings_built from_to_of (after (codes "FROM") (readings_sequence readings_moment (after (codes "TO") readings_moment))))
     (readings_built between_of (after (codes "BETWEEN") (readings_sequence readings_moment (after (codes "AND") readings_moment)))))
 
@@ -310,7 +310,7 @@ readings_delete n =
 
 readings_at : Readings (IsAt exact) (IsAt placeholders) (IsAt any_value)
 readings_at =
-    readings_clock_moment behind_at
+    readings_clock_moment either_at
 
 -- ---- statements
 
@@ -332,11 +332,11 @@ spelled_exactly x s f h = (h.0, ((readings_statement h.0).sharp x s f h.1).0)
 pub exactly_read : (x : List Lexeme) (s : Statement) → Spells exact x s → Spells placeholders x s
 exactly_read x s h = (h.0, (readings_statement h.0).known x s h.1)
 
--- what is read is spelled by some values
+-- a read statement is spelled by some values
 pub loosely_spelled : (x : List Lexeme) (s : Statement) → Spells placeholders x s → Spells any_value x s
 loosely_spelled x s h = (h.0, (readings_statement h.0).loose x s h.1)
 
--- where a statement is spelled by some values, one is read
+-- if a statement is spelled by some values, one is read
 pub some_read : (x : List Lexeme) (s : Statement) → Spells any_value x s → (t : Statement) × Spells placeholders x t
 some_read x s h =
     let p = (readings_statement h.0).some x s h.1 in

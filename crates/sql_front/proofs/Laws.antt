@@ -7,7 +7,8 @@ use Rattle.sql_front.specs.Language.{OneToken, Fixed, Sequence, Built, Choice, R
 use Rattle.period_core.specs.TextReading.{◌>>=◌}
 use Rattle.sql_front.specs.reading.Reading.{Reader, one_read, fixed_read, sequence_read, built_read, begins, choice_read, bounded_read, repetition_read, optional_read, preceded_read, preceded_or_not_read, denotes_read, separated_read, enclosed_read}
 
--- what p reads is of the language, and what is of the language is read by p wherever it may be followed so
+-- each text that p reads is of the language, and each of the language is read by p wherever it may
+-- be followed so
 pub record Reads {A : Type 0} (L : List Lexeme → A → Type 0) (Follow : List Lexeme → Type 0) (p : Reader A) : Type 0 where
   pub found : (ts : List Lexeme) (x : A × List Lexeme) → p ts ≡ Some x → (front : List Lexeme) × (ts ≡ front ++ x.1) × L front x.0
   pub again : (front : List Lexeme) (a : A) (rest : List Lexeme) → L front a → Follow rest → p (front ++ rest) ≡ Some (a, rest)
@@ -195,7 +196,7 @@ reads_preceded_or_not {A} {test} {other} {L} {F} {p} s apart r =
 pub reads_denotes : {A : Type 0} (a : A) (test : Lexeme → Bool) → Reads (Denotes a test) Any (denotes_read a test)
 reads_denotes a test = reads_built (λ (nothing : Unit {0}). a) (reads_fixed test)
 
--- what is enclosed may be followed by the closing one
+-- an enclosed text may be followed by the closing token
 pub reads_enclosed : {A : Type 0} {L : List Lexeme → A → Type 0} {F : List Lexeme → Type 0} {p : Reader A} → Reads L F p → ((y : List Lexeme) → begins (symbol (codes ")")) y ≡ true → F y) → Reads (Enclosed L) Any (enclosed_read p)
 reads_enclosed {A} r closes =
     reads_preceded (symbol (codes "("))

@@ -12,7 +12,7 @@ use Rattle.sql_front.specs.reading.Leaves.{name_read}
 use Rattle.sql_front.specs.reading.ElementReaders.{leading_names_read, more_names_read, one_more_name, second_is}
 use Rattle.sql_front.proofs.Loop.{Going, begins_some, going_fails, going_on, with_front}
 
--- one of the names behind a comma
+-- one of the names after a comma
 abbrev pub next_name : Reader (List ℕ)
 next_name = preceded_read comma name_read
 
@@ -39,7 +39,7 @@ unfolding leading_names_read more_names_read
 leading_fails_first error.Memory ts h = tt
 leading_fails_first error.Syntax ts h = rw h refl
 
--- where one more name comes, a comma does
+-- if one more name comes, a comma does
 pub comma_first : (ts : List Lexeme) → one_more_name ts ≡ true → begins comma ts ≡ true
 unfolding one_more_name
 comma_first ts e = (and_parts (begins comma ts) (second_is name ts) e).0
@@ -59,7 +59,7 @@ next_fails : (fault : ReadError) (rest between : List Lexeme)
 next_fails error.Memory rest between e f = tt
 next_fails error.Syntax rest between e f = rw (e, f) refl
 
--- where a name fails, the whole does
+-- if a name fails, the whole does
 pub leading_fails : (fault : ReadError) (front : List (List ℕ)) (rest between : List Lexeme) (whole : Option (List (List ℕ) × List Lexeme))
     → one_more_name rest ≡ true → fixed_read comma rest ≡ Some (tt, between) → Fails fault (name_read between)
     → Leading front rest whole → Fails fault whole

@@ -55,7 +55,7 @@ IsText = Built text_of (OneToken text)
 abbrev IsDay : List Lexeme → Value → Type 0
 IsDay = Built value.Date IsDate
 
--- the same literals, in the order in which they are read
+-- equal literals, in the order in which they are read
 abbrev Ordered : List Lexeme → Value → Type 0
 Ordered = Choice IsNegative (Choice IsText (Choice IsDay IsUnsigned))
 

@@ -1,4 +1,4 @@
--- Where so much room is left for parentheses, a language is read at that depth.
+-- At a depth that leaves so much room for parentheses, a language is read.
 use Rattle.std.proofs.Common.{◌≡◌, ℕ, zero, suc, Bool, true, false, List, [], ◌∷◌, ◌++◌, Option, Some, None, refl, sym, ap, ◌∙◌, inl, inr, codes}
 use Rattle.std.specs.Str.{bytes_eq}
 use Rattle.std.proofs.lemmas.Bool.{cases_Bool}
@@ -26,7 +26,7 @@ room_append (suc k) (t ∷ x) y =
       | inr e ↦ elim (cases_Bool (closes t)) [ inl f ↦ rw (e, f) (room_append (suc (suc k)) x y) | inr f ↦ rw (e, f) (room_append (suc k) x y) ]
     ]
 
--- where room is left, a text of L is one of M, and leaves as much room as it found
+-- if room is left, a text of L is one of M, and leaves as much room as it found
 pub record Level {A : Type 0} (k : ℕ) (L M : List Lexeme → A → Type 0) : Type 0 where
   pub keeps : (x : List Lexeme) (a : A) (j : ℕ) → L x a → room k x ≡ Some j → (j ≡ k) × M x a
 
@@ -157,10 +157,10 @@ plain_name = record { opening = apart_kinds name_kind (symbol_kind (codes "(")) 
 pub plain_symbol : (s : List ℕ) → bytes_eq s (codes "(") ≡ false → bytes_eq s (codes ")") ≡ false → Plain (symbol s)
 plain_symbol s e f = record { opening = symbols_apart s (codes "(") e; closing = symbols_apart s (codes ")") f }
 
-pub level_stands : {A : Type 0} (k : ℕ) (a : A) {test : Lexeme → Bool} → Plain test → Level k (Denotes a test) (Denotes a test)
-level_stands k a p = level_built (λ (nothing : Unit {0}). a) (level_fixed k p)
+pub level_of_token : {A : Type 0} (k : ℕ) (a : A) {test : Lexeme → Bool} → Plain test → Level k (Denotes a test) (Denotes a test)
+level_of_token k a p = level_built (λ (nothing : Unit {0}). a) (level_fixed k p)
 
--- what opens no parentheses of its own, in parentheses
+-- a text that opens no parentheses of its own, in parentheses
 pub level_enclosed_same : {A : Type 0} {L : List Lexeme → A → Type 0} (k : ℕ) → ((j : ℕ) → Level j L L) → Level k (Enclosed L) (Enclosed L)
 level_enclosed_same {A} {L} zero r = level_closed L (Enclosed L)
 level_enclosed_same (suc k) r = level_enclosed (r k)

@@ -1,4 +1,4 @@
--- What is wrong with literals, as it is tested.
+-- The tests for faulty literals find one if and only if there is one.
 use Rattle.std.proofs.Common.{◌≡◌, ℕ, ℤ, ◌<◌, Bool, true, false, cond, nat_lt, List, [], ◌∷◌, ◌++◌, length, Option, Some, None, refl, sym, ap, subst, ◌∙◌, ◌&&◌, ◌||◌, ◌↔◌, inl, inr, arith, rules, codes}
 use Rattle.std.specs.Prelude.{IsSome, IsTrue, is_none, ◌+◌}
 use Rattle.std.proofs.lemmas.Bool.{and_parts, or_cases}
@@ -9,7 +9,7 @@ use Rattle.sql_front.specs.Language.{keyword, symbol, number, text, or_test}
 use Rattle.sql_front.specs.LiteralValues.{IsClockToken, IsDateToken, IsMomentToken, number_of_digits}
 use Rattle.period_core.specs.Encoding.{greatest_number}
 use Rattle.sql_front.specs.reading.LeafValues.{clock_of_token, day_of_token, moment_of_token}
-use Rattle.sql_front.specs.LiteralFaults.{HasBadDate, HasBadMoment, HasNoMoment, HasNumberOutside, HasOpenEnd, ends_in_minus, limit_behind}
+use Rattle.sql_front.specs.LiteralFaults.{HasBadDate, HasBadMoment, HasNoMoment, HasNumberOutside, HasOpenEnd, ends_in_minus, limit_after}
 use Rattle.sql_front.specs.LiteralTests.{is_above, is_bad_date, is_bad_moment, is_no_moment, is_open_end, is_unread, names_none, number_above, somewhere}
 use Rattle.sql_front.proofs.TokenFacts.{clock_there, day_there, moment_there}
 
@@ -39,7 +39,7 @@ somewhere_here : (test : Lexeme → List Lexeme → Bool) (front : List Lexeme) 
 somewhere_here test [] t rest e = or_left (test t rest) (somewhere test rest) e
 somewhere_here test (s ∷ front) t rest e = or_right (test s (front ++ t ∷ rest)) (somewhere test (front ++ t ∷ rest)) (somewhere_here test front t rest e)
 
--- ---- what names nothing
+-- ---- literals that name nothing
 
 abbrev nothing : Option ℤ
 nothing = None
@@ -59,7 +59,7 @@ text_unread : (read : List ℕ → Option ℤ) (b : Bool) (token : List ℕ) →
 text_unread read true token = refl
 text_unread read false token = refl
 
--- a word and a text behind it that names nothing
+-- a word and a text after it that names nothing
 unread_found : (word : List ℕ) (read : List ℕ → Option ℤ) (Named : List ℕ → Type 0) → ((x : List ℕ) → IsSome (read x) ↔ Named x) → (t : Lexeme) (rest : List Lexeme) → is_unread word read t rest ≡ true
     → (u : Lexeme) × (more : List Lexeme) × (rest ≡ u ∷ more) × (keyword word t ≡ true) × (text u ≡ true) × (Named u.text → ⊥)
 unread_found word read Named there t [] e = absurd cc
@@ -76,6 +76,7 @@ unread_here word read Named there t u more k x never =
 
 -- ---- dates
 
+-- the test for a bad date finds one if and only if the tokens have one
 pub bad_date_somewhere : (ts : List Lexeme) → somewhere is_bad_date ts ≡ true ↔ HasBadDate ts
 bad_date_somewhere ts = (
   λ e.
@@ -111,6 +112,7 @@ open_end_found front t (u ∷ rest) ts at e =
     let k = unread_found (codes "TIMESTAMP") clock_of_token IsClockToken clock_there u rest p.0 in
     (front, t, u, k.0, k.1, at ∙ ap (λ (z : List Lexeme). front ++ t ∷ u ∷ z) k.2, p.1, k.3, k.4, k.5)
 
+-- the test for a bad moment finds one if and only if the tokens have one
 pub bad_moment_somewhere : (ts : List Lexeme) → somewhere is_bad_moment ts ≡ true ↔ HasBadMoment ts
 bad_moment_somewhere ts = (
   λ e.
@@ -126,7 +128,7 @@ bad_moment_somewhere ts = (
 
 -- ---- numbers
 
--- whether a minus stands last, where one or none stood before
+-- whether a minus is last, if one or none stood before
 abbrev ends_with : Bool → List Lexeme → Bool
 ends_with minus [] = minus
 ends_with minus (t ∷ more) = ends_with (symbol (codes "-") t) more
@@ -158,9 +160,10 @@ lt_is a b e = grind (arith, nat_tests, e)
 is_lt : (a b : ℕ) → a < b → nat_lt a b ≡ true
 is_lt a b h = grind (arith, nat_tests, h)
 
-limit_is : (front : List Lexeme) → cond (ends_with false front) (greatest_number + 1) greatest_number ≡ limit_behind front
+limit_is : (front : List Lexeme) → cond (ends_with false front) (greatest_number + 1) greatest_number ≡ limit_after front
 limit_is front = ap (λ (b : Bool). cond b (greatest_number + 1) greatest_number) (ends_with_is front)
 
+-- the test for a number outside its range finds one if and only if the tokens have one
 pub number_somewhere : (ts : List Lexeme) → number_above false ts ≡ true ↔ HasNumberOutside ts
 number_somewhere ts = (
   λ e.
@@ -184,7 +187,7 @@ pub none_above : (minus : Bool) (rest : List Token) → length rest < 1 → numb
 none_above minus [] short = refl
 none_above minus (t ∷ rest) short = absurd (omega arith)
 
--- a test of all tokens is what was seen of it, where none are left
+-- a test of all tokens is what was seen of it, if none are left
 pub all_seen : {D : Type 0} (test seen left : Bool) → test ≡ true ↔ D → test ≡ (seen || left) → left ≡ false → IsTrue seen ↔ D
 all_seen test true left i e f = (λ s. i.0 e, λ d. refl)
 all_seen test false left i e f = (λ s. absurd cc, λ d. sym (sym (i.1 d) ∙ e ∙ f))

@@ -12,11 +12,11 @@ use Rattle.sql_front.specs.Literals.{Anything, any_value, exact}
 use Rattle.sql_front.specs.Placeholders.{placeholders}
 use Rattle.sql_front.specs.Builders.{number_of, text_of}
 use Rattle.sql_front.specs.Grammar.{IsClockMoment, IsDate, IsLiteral, IsMoment, IsNumber, IsTuple, comma}
-use Rattle.sql_front.specs.LiteralFaults.{ends_in_minus, limit_behind}
+use Rattle.sql_front.specs.LiteralFaults.{ends_in_minus, limit_after}
 use Rattle.sql_front.proofs.LeafFacts.{clock_named, clock_only, day_named, day_only, moment_named, moment_only}
 use Rattle.sql_front.proofs.Readings.{NoFault, NoMinus, Readings, number_no_minus, readings_built, readings_choice, readings_enclosed, readings_one, readings_preceded_or_not, readings_separated, symbol_no_minus, text_no_minus}
 
--- ---- a token and one behind it
+-- ---- a token and one after it
 
 -- the two tokens of a language that has a token, then one with a value
 record Two (first second : Lexeme → Bool) (x : List Lexeme) : Type 0 where
@@ -26,16 +26,16 @@ record Two (first second : Lexeme → Bool) (x : List Lexeme) : Type 0 where
   begins : first one ≡ true
   ends : second other ≡ true
 
--- the same, where the second stands in this relation to the value
-abbrev Behind : {B : Type 0} → (Lexeme → Bool) → (Lexeme → Bool) → (List ℕ → B → Type 0) → Language B
-Behind first second R = Preceded first (Related R (OneToken second))
+-- two tokens of these kinds, the second of which is in this relation to the value
+abbrev SecondIs : {B : Type 0} → (Lexeme → Bool) → (Lexeme → Bool) → (List ℕ → B → Type 0) → Language B
+SecondIs first second R = Preceded first (Related R (OneToken second))
 
--- where it is read as this value
-abbrev ReadBehind : {B : Type 0} → (Lexeme → Bool) → (Lexeme → Bool) → (List ℕ → B) → Language B
-ReadBehind first second read = Preceded first (Built read (OneToken second))
+-- two tokens of these kinds, the second of which is read as this value
+abbrev SecondReads : {B : Type 0} → (Lexeme → Bool) → (Lexeme → Bool) → (List ℕ → B) → Language B
+SecondReads first second read = Preceded first (Built read (OneToken second))
 
 module _ {B : Type 0} {first second : Lexeme → Bool} where
-  related_two : (R : List ℕ → B → Type 0) (x : List Lexeme) (b : B) → Behind first second R x b → (t : Two first second x) × R t.other.text b
+  related_two : (R : List ℕ → B → Type 0) (x : List Lexeme) (b : B) → SecondIs first second R x b → (t : Two first second x) × R t.other.text b
   related_two R x b h =
       let token = h.2.4.2 in (
         record {
@@ -48,36 +48,36 @@ module _ {B : Type 0} {first second : Lexeme → Bool} where
         subst (λ (w : List ℕ). R w b) token.3 (subst (λ (c : B). R h.2.4.0 c) (sym h.1) h.2.4.1),
       )
 
-  two_related : (R : List ℕ → B → Type 0) (x : List Lexeme) (b : B) (t : Two first second x) → R t.other.text b → Behind first second R x b
+  two_related : (R : List ℕ → B → Type 0) (x : List Lexeme) (b : B) (t : Two first second x) → R t.other.text b → SecondIs first second R x b
   two_related R x b t r =
       ((tt, b), refl, (t.one ∷ [], t.other ∷ [], t.at, (t.one, t.begins, refl), (t.other.text, r, (t.other, t.ends, refl, refl))))
 
-  -- what is exact, what is read by this function, and anything
+  -- the exact reading, the reading by this function, and any
   module _ (R : List ℕ → B → Type 0) (read : List ℕ → B) (only : (w : List ℕ) (b : B) → R w b → b ≡ read w) where
-    two_exact : (x : List Lexeme) (b : B) → ((t : Two first second x) → R t.other.text (read t.other.text)) → ReadBehind first second read x b → Behind first second R x b
+    two_exact : (x : List Lexeme) (b : B) → ((t : Two first second x) → R t.other.text (read t.other.text)) → SecondReads first second read x b → SecondIs first second R x b
     two_exact x b named h =
         let t = related_two (λ w c. c ≡ read w) x b h in
         two_related R x b t.0 (subst (λ (c : B). R t.0.other.text c) (sym t.1) (named t.0))
 
-    two_known : (x : List Lexeme) (b : B) → Behind first second R x b → ReadBehind first second read x b
+    two_known : (x : List Lexeme) (b : B) → SecondIs first second R x b → SecondReads first second read x b
     two_known x b h =
         let t = related_two R x b h in
         two_related (λ w c. c ≡ read w) x b t.0 (only t.0.other.text b t.1)
 
-    two_loose : (x : List Lexeme) (b : B) → ReadBehind first second read x b → Behind first second Anything x b
+    two_loose : (x : List Lexeme) (b : B) → SecondReads first second read x b → SecondIs first second Anything x b
     two_loose x b h = two_related Anything x b (related_two (λ w c. c ≡ read w) x b h).0 tt
 
-    two_some : (x : List Lexeme) (b : B) → Behind first second Anything x b → (c : B) × ReadBehind first second read x c
+    two_some : (x : List Lexeme) (b : B) → SecondIs first second Anything x b → (c : B) × SecondReads first second read x c
     two_some x b h =
         let t = (related_two Anything x b h).0 in
         (read t.other.text, two_related (λ w c. c ≡ read w) x (read t.other.text) t refl)
 
-    two_minus : NoMinus second → (x : List Lexeme) (b : B) → ReadBehind first second read x b → ends_in_minus x ≡ false
+    two_minus : NoMinus second → (x : List Lexeme) (b : B) → SecondReads first second read x b → ends_in_minus x ≡ false
     two_minus n x b h =
         let t = (related_two (λ w c. c ≡ read w) x b h).0 in
         ap ends_in_minus t.at ∙ n.minus.apart t.other t.ends
 
-    readings_two : NoMinus second → ((x : List Lexeme) (t : Two first second x) → NoFault x → R t.other.text (read t.other.text)) → Readings (Behind first second R) (ReadBehind first second read) (Behind first second Anything)
+    readings_two : NoMinus second → ((x : List Lexeme) (t : Two first second x) → NoFault x → R t.other.text (read t.other.text)) → Readings (SecondIs first second R) (SecondReads first second read) (SecondIs first second Anything)
     readings_two n named = record {
       sharp = λ x b f h. (two_exact x b (λ t. named x t f) h, two_minus n x b h);
       known = two_known;
@@ -97,7 +97,7 @@ readings_moment =
     readings_two NamesMoment moment_value moment_only text_no_minus
     (λ x t f. moment_named t.other.text (λ never. f.moments (inl ([], t.one, t.other, [], t.at, (t.begins, t.ends, never)))))
 
--- a moment before the open end, behind AT or OF
+-- a moment before the open end, after AT or OF
 module _ {first : Lexeme → Bool} (before : (t : Lexeme) → first t ≡ true → or_test (keyword (codes "AT")) (keyword (codes "OF")) t ≡ true) where
   clock_exact : (x : List Lexeme) (m : ℤ) → NoFault x → Preceded first (IsClockMoment placeholders) x m → Preceded first (IsClockMoment exact) x m
   clock_exact x m f h =
@@ -152,12 +152,12 @@ negative_named digits h = (ap (λ (n : ℕ). neg_ℤ (pos n)) (up_to_within (gre
 negative_only : (digits : List ℕ) (n : ℤ) → NamesNegative digits n → n ≡ negative_value digits
 negative_only digits n h = h.0 ∙ sym (ap (λ (m : ℕ). neg_ℤ (pos m)) (up_to_within (greatest_number + 1) (number_of_digits digits) h.1))
 
--- what a number may be where nothing stands before it
+-- the number of a token with nothing before it
 number_within : (x : List Lexeme) (t : Lexeme) → x ≡ t ∷ [] → number t ≡ true → NoFault x → number_of_digits t.text ≤ greatest_number
 number_within x t at is f = within greatest_number (number_of_digits t.text) (λ above. f.numbers ([], t, [], at, is, above))
 
-behind_minus : (t : Lexeme) → symbol (codes "-") t ≡ true → limit_behind (t ∷ []) ≡ greatest_number + 1
-behind_minus t e = rw e refl
+limit_after_minus : (t : Lexeme) → symbol (codes "-") t ≡ true → limit_after (t ∷ []) ≡ greatest_number + 1
+limit_after_minus t e = rw e refl
 
 pub readings_number : Readings (IsNumber exact) (IsNumber placeholders) (IsNumber any_value)
 readings_number = record {
@@ -174,7 +174,7 @@ readings_negative : Readings (Preceded (symbol (codes "-")) exact.minus_number) 
 readings_negative =
     readings_two NamesNegative negative_value negative_only number_no_minus
     (λ x t f. negative_named t.other.text (within (greatest_number + 1) (number_of_digits t.other.text)
-    (λ above. f.numbers (t.one ∷ [], t.other, [], t.at, t.ends, rw (behind_minus t.one t.begins) above))))
+    (λ above. f.numbers (t.one ∷ [], t.other, [], t.at, t.ends, rw (limit_after_minus t.one t.begins) above))))
 
 -- ---- literals
 

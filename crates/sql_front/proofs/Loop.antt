@@ -16,7 +16,7 @@ module _ {A : Type 0} (sep : Lexeme → Bool) (q : Reader A) where
 abbrev pub with_front : {A : Type 0} → List A → Option (List A × List Lexeme) → Option (List A × List Lexeme)
 with_front front read = read >>= λ x. Some (front ++ x.0, x.1)
 
--- what was read, and what is left to read, make the whole
+-- the items that were read, and the tokens that are left to read, make the whole
 pub record Goes {A : Type 0} (sep : Lexeme → Bool) (q : Reader A) (front : List A) (rest : List Lexeme) (whole : Option (List A × List Lexeme)) : Type 0 where
   pub count : ℕ
   pub enough : length rest ≤ count
@@ -72,7 +72,7 @@ module _ {A : Type 0} (sep : Lexeme → Bool) (q : Reader A) where
       let one : with_front front (left sep q (suc n) rest) ≡ None = rw (starts, e, f) refl in
       sym so_far ∙ one
 
-  -- where an item fails, the whole does
+  -- if an item fails, the whole does
   pub fails : (fault : ReadError) (front : List A) (rest between : List Lexeme) (whole : Option (List A × List Lexeme)) → begins sep rest ≡ true → fixed_read sep rest ≡ Some (tt, between) → Fails fault (q between)
       → Goes sep q front rest whole → Fails fault whole
   fails error.Memory front rest between whole starts e f g = tt
@@ -80,7 +80,7 @@ module _ {A : Type 0} (sep : Lexeme → Bool) (q : Reader A) where
 
 -- ---- repetition with no separator
 
--- what was read, and what is left to read, make the whole
+-- the items that were read, and the tokens that are left to read, make the whole
 pub record Going {A : Type 0} (d : List Lexeme → Bool) (p : Reader A) (front : List A) (rest : List Lexeme) (whole : Option (List A × List Lexeme)) : Type 0 where
   pub count : ℕ
   pub enough : length rest ≤ count
@@ -125,12 +125,12 @@ module _ {A : Type 0} (d : List Lexeme → Bool) (p : Reader A) where
       let one : with_front front (bounded_read d p (suc n) rest) ≡ None = rw (goes, e) refl in
       sym so_far ∙ one
 
-  -- where an item fails, the whole does
+  -- if an item fails, the whole does
   pub going_fails : (fault : ReadError) (front : List A) (rest : List Lexeme) (whole : Option (List A × List Lexeme)) → d rest ≡ true → 0 < length rest → Fails fault (p rest) → Going d p front rest whole → Fails fault whole
   going_fails error.Memory front rest whole goes some e g = tt
   going_fails error.Syntax front rest whole goes some e g = going_fails_by g.count front rest whole goes e (some_tokens rest g.count some g.enough) g.makes
 
--- what begins so is not empty
+-- a list that begins so is not empty
 pub begins_some : (test : Lexeme → Bool) (rest : List Lexeme) → begins test rest ≡ true → 0 < length rest
 begins_some test [] e = absurd cc
 begins_some test (t ∷ rest) e = omega arith
@@ -141,7 +141,7 @@ no_fail sep error.Memory rest starts e = refl
 no_fail sep error.Syntax [] starts e = absurd cc
 no_fail sep error.Syntax (t ∷ rest) starts e = absurd (none_some (tt {0}, rest) (sym e ∙ rw starts refl))
 
--- what stands for f of what fails, fails
+-- a function of a reading that fails, fails
 pub mapped_fails : {A B : Type 0} (f : A → B) (fault : ReadError) (read : Option (A × List Lexeme)) → Fails fault read → Fails {Y = B × List Lexeme} fault (read >>= λ x. Some (f x.0, x.1))
 mapped_fails f error.Memory read h = tt
 mapped_fails f error.Syntax read h = rw h refl

@@ -6,7 +6,7 @@ use Rattle.sql_front.specs.reading.Reading.{third_is}
 use Rattle.sql_front.specs.reading.ElementReaders.{second_is}
 use Rattle.sql_front.proofs.First.{Apart, Starts, begins_apart}
 
--- behind one token the language begins
+-- after one token the language begins
 pub second_starts : {A : Type 0} {a test : Lexeme → Bool} {L : List Lexeme → A → Type 0} → Starts test L
     → (x : List Lexeme) (v : A) (z : List Lexeme) → Preceded a L x v → second_is test (x ++ z) ≡ true
 second_starts {test = test} s x v z h =
@@ -15,7 +15,7 @@ second_starts {test = test} s x v z h =
     let whole : x ++ z ≡ parts.3.0 ∷ (parts.1 ++ z) = ap (λ (w : List Lexeme). w ++ z) split in
     ap (second_is test) whole ∙ s.at parts.1 h.0.1 z parts.4
 
--- behind two tokens the language begins
+-- after two tokens the language begins
 pub third_starts : {A : Type 0} {a b test : Lexeme → Bool} {L : List Lexeme → A → Type 0} → Starts test L
     → (x : List Lexeme) (v : A) (z : List Lexeme) → Preceded a (Preceded b L) x v → third_is test (x ++ z) ≡ true
 third_starts {test = test} s x v z h =
@@ -27,12 +27,12 @@ third_starts {test = test} s x v z h =
     let whole : x ++ z ≡ outer.3.0 ∷ inner.3.0 ∷ (inner.1 ++ z) = ap (λ (w : List Lexeme). w ++ z) both in
     ap (third_is test) whole ∙ s.at inner.1 outer.4.0.1 z inner.4
 
--- what the second token is decides
+-- the second token decides
 pub second_apart : {a b : Lexeme → Bool} → Apart a b → (z : List Lexeme) → second_is a z ≡ true → second_is b z ≡ false
 second_apart r [] e = absurd cc
 second_apart r (t ∷ rest) e = begins_apart r rest e
 
--- what the third token is decides
+-- the third token decides
 pub third_apart : {a b : Lexeme → Bool} → Apart a b → (z : List Lexeme) → third_is a z ≡ true → third_is b z ≡ false
 third_apart r [] e = absurd cc
 third_apart r (t ∷ []) e = absurd cc

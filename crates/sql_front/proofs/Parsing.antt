@@ -1,4 +1,4 @@
--- What parse may answer.
+-- The answers of `parse`: a statement if the tokens spell it, and else bad syntax.
 use Rattle.std.proofs.Common.{◌≡◌, ◌≤◌, Bool, true, false, List, [], Result, Ok, Err, inl, lit≤}
 use Rattle.std.specs.Prelude.{IfOk, IsTrue}
 use Rattle.period_core.specs.Codes.{code_of}
@@ -24,12 +24,12 @@ use Rattle.sql_front.proofs.Whole.{is_none}
 
 -- ---- all of the tokens
 
--- what is read at the greatest depth is spelled so, with stand-ins
+-- a statement that is read at the greatest depth is spelled so, with stand-ins
 pub read_is_spelled : (ls : List Lexeme) (result : Result statements.Statement ReadError) → Gives plain result (whole_read (statement_read most_open) ls) → IfOk result (λ s. IsStatement ls (plain s))
 read_is_spelled ls (Ok s) given = read_spelled 32 ls (plain s) given
 read_is_spelled ls (Err e) given = tt
 
--- where it is not too deep, nothing else is spelled
+-- if the tokens are not too deep, nothing else is spelled
 pub unread_is_none : (ls : List Lexeme) (result : Result statements.Statement ReadError) → Gives plain result (whole_read (statement_read most_open) ls) → result ≡ Err error.Syntax → (IsTooDeep ls → ⊥) → SpellsNone ls
 unread_is_none ls result given e shallow s spelled =
     let t = some_read ls s spelled in
@@ -37,10 +37,10 @@ unread_is_none ls result given e shallow s spelled =
 
 -- ---- refusals
 
--- what a test that failed would have told does not hold
-pub untold : {D : Type 0} (told : Bool) → told ≡ false → (D → IsTrue told) → D → ⊥
-untold true e tells d = absurd cc
-untold false e tells d = let holds : IsTrue false = tells d in cc
+-- a fault that a test would have found, and did not, is none
+pub not_found : {D : Type 0} (told : Bool) → told ≡ false → (D → IsTrue told) → D → ⊥
+not_found true e tells d = absurd cc
+not_found false e tells d = let holds : IsTrue false = tells d in cc
 
 least_syntax : (ls : List Lexeme) (other : Refusal) → PieceApplies ls other → code_of Syntax ≤ code_of other
 least_syntax ls Syntax h = lit≤ tt
@@ -50,9 +50,10 @@ least_syntax ls BadMoment h = lit≤ tt
 least_syntax ls NumberRange h = lit≤ tt
 least_syntax ls other h = absurd h
 
+-- tokens that spell no statement, and are not too deep, may be answered with bad syntax
 pub no_statement : (ls : List Lexeme) → (IsTooDeep ls → ⊥) → SpellsNone ls → MayAnswer (PieceApplies ls) Syntax
 no_statement ls shallow none = inl (record { applies = (shallow, none); least = least_syntax ls })
 
--- what is spelled, with stand-ins or not, is not refused for its spelling
+-- a piece that is spelled, with stand-ins or not, is not refused for its spelling
 pub spelled_some : (ls : List Lexeme) (s : Statement) → IsStatement ls s → SpellsNone ls → ⊥
 spelled_some ls s spelled none = none s (loosely_spelled ls s spelled)

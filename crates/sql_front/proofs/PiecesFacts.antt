@@ -34,7 +34,7 @@ module _ {A : Type 0} (f : A → Lexeme) where
     within = All-nil (IsWithin (length tokens));
   }
 
-  -- what stands at a place
+  -- the token at a place
   at_place : (tokens : List A) (i : ℕ) (d : A) → i < length tokens → drop i (map f tokens) ≡ f (get_or tokens i d) ∷ drop (i + 1) (map f tokens)
   at_place tokens i d h =
       let next : suc i ≡ i + 1 = omega arith in
@@ -73,7 +73,7 @@ module _ {A : Type 0} (f : A → Lexeme) where
   empty [] parts h = refl
   empty (t ∷ part) parts h = absurd (omega arith)
 
-  -- the span of a part comes first, if it is not empty
+  -- the span of a part is first, if it is not empty
   filled_span : (start i : ℕ) (part : List Lexeme) (parts : List (List Lexeme)) (more : List Span) → start + length part ≡ i → start < i
       → more ≡ filter is_filled (spans_from (i + 1) parts) → record { start = start; end = i } ∷ more ≡ filter is_filled (spans_from start (part ∷ parts))
   filled_span start i part parts more size some rest =
@@ -86,9 +86,9 @@ module _ {A : Type 0} (f : A → Lexeme) where
       let is : nat_lt start i ≡ false = grind (arith, nat_tests) in
       rw (size, rest, is) refl
 
-  -- a span behind the others
-  span_behind : (ts : List Lexeme) (spans after : List Span) (span : Span) (more : List Span) → after ≡ spans ++ span ∷ [] → HasSpans 0 ts (spans ++ span ∷ more) → HasSpans 0 ts (after ++ more)
-  span_behind ts spans after span more pushed has =
+  -- a span after the others
+  span_after : (ts : List Lexeme) (spans after : List Span) (span : Span) (more : List Span) → after ≡ spans ++ span ∷ [] → HasSpans 0 ts (spans ++ span ∷ more) → HasSpans 0 ts (after ++ more)
+  span_after ts spans after span more pushed has =
       subst (HasSpans 0 ts) (sym (ap (λ (x : List Span). x ++ more) pushed ∙ append_assoc spans (span ∷ []) more)) has
 
   -- one more span
@@ -112,7 +112,7 @@ module _ {A : Type 0} (f : A → Lexeme) where
       c.joined ∙ ap (λ (rest : List Lexeme). c.part ++ rest) (at_place tokens i d h) in
       subst (pieces.Joined (c.part ∷ parts)) (sym whole) joined
 
-  -- a semicolon behind a piece
+  -- a semicolon after a piece
   pub cut_piece : (tokens : List A) (start i : ℕ) (spans after : List Span) (d : A) → Cut tokens start i spans → i < length tokens
       → is_semicolon (f (get_or tokens i d)) ≡ true → start < i → after ≡ spans ++ record { start = start; end = i } ∷ [] → Cut tokens (i + 1) (i + 1) after
   cut_piece tokens start i spans after d c h semicolon some pushed =
@@ -128,12 +128,12 @@ module _ {A : Type 0} (f : A → Lexeme) where
             subst (HasPieces (map f tokens)) (sym (pushed_pieces (map f tokens) spans after span c.part more pushed (part_is tokens start i spans c)))
             (c.completes (c.part ∷ more) (c.part ∷ rest.0, part_first tokens start i spans d c h semicolon rest.0 rest.1, first));
         places = λ more rest.
-            span_behind (map f tokens) spans after span more pushed
+            span_after (map f tokens) spans after span more pushed
             (c.places (span ∷ more) (c.part ∷ rest.0, part_first tokens start i spans d c h semicolon rest.0 rest.1, filled_span start i c.part rest.0 more c.size some rest.2));
         within = pushed_within (length tokens) spans after span pushed c.within (some, omega arith);
       }
 
-  -- a semicolon behind no token
+  -- a semicolon after no token
   pub cut_empty : (tokens : List A) (start i : ℕ) (spans : List Span) (d : A) → Cut tokens start i spans → i < length tokens
       → is_semicolon (f (get_or tokens i d)) ≡ true → i ≤ start → Cut tokens (i + 1) (i + 1) spans
   cut_empty tokens start i spans d c h semicolon none = record {
@@ -148,7 +148,7 @@ module _ {A : Type 0} (f : A → Lexeme) where
     within = c.within;
   }
 
-  -- the tokens behind the last semicolon are one part
+  -- the tokens after the last semicolon are one part
   last_part : (tokens : List A) (start : ℕ) (spans : List Span) → (c : Cut tokens start (length tokens) spans) → pieces.Joined (c.part ∷ []) (drop start (map f tokens))
   last_part tokens start spans c =
       let none : drop (length tokens) (map f tokens) ≡ [] = drop_all (length tokens) (map f tokens) (omega (arith, length-map tokens f)) in
@@ -158,7 +158,7 @@ module _ {A : Type 0} (f : A → Lexeme) where
   to_end : (tokens : List A) (start i : ℕ) (spans : List Span) → Cut tokens start i spans → length tokens ≤ i → i ≤ length tokens → Cut tokens start (length tokens) spans
   to_end tokens start i spans c le ge = let e : i ≡ length tokens = omega arith in subst (λ (k : ℕ). Cut tokens start k spans) e c
 
-  -- what the cut of all tokens gives
+  -- the cut of all tokens
   pub record AreCut (tokens : List A) (spans : List Span) : Type 0 where
     pub whole : HasPieces (map f tokens) (map (spanned (map f tokens)) spans)
     pub places : HasSpans 0 (map f tokens) spans

@@ -35,8 +35,8 @@ module _ (place : Ptr) (global : Global) where
     abbrev inverse : trees.Tree T
     inverse = trees.Not (boxed (trees.Test c))
 
-    inverse_stands : plain_condition inverse ≡ negated (test c)
-    inverse_stands =
+    inverse_plain : plain_condition inverse ≡ negated (test c)
+    inverse_plain =
         ap plain_condition (sym (rolls.rolls-Not (boxed (trees.Test c))))
         ∙ fold-roll-Tree T (Condition T) condition_layer (layer.Not (boxed (trees.Test c)))
         ∙ ap negated (test_view c)
@@ -48,10 +48,10 @@ module _ (place : Ptr) (global : Global) where
     abbrev either_tree : Condition T
     either_tree = any (conditions_of (test b ∷ negated (test c) ∷ []))
 
-    either_stands : plain_condition either ≡ either_tree
-    either_stands =
+    either_plain : plain_condition either ≡ either_tree
+    either_plain =
         or_view (boxed (trees.Test b)) (one_other inverse)
-        ∙ ap₂ (λ (t u : Condition T). any (conditions_of (t ∷ u ∷ []))) (test_view b) inverse_stands
+        ∙ ap₂ (λ (t u : Condition T). any (conditions_of (t ∷ u ∷ []))) (test_view b) inverse_plain
 
   -- ---- changes
 
@@ -62,8 +62,8 @@ module _ (place : Ptr) (global : Global) where
   abbrev deleted : Condition Compare → Statement
   deleted condition = delete (record { table = codes "T"; portion = None; condition = Some condition })
 
-  deletion_stands : (b c : Compare) → plain (deletion b c) ≡ deleted (either_tree b c)
-  deletion_stands b c = ap deleted (either_stands b c)
+  deletion_plain : (b c : Compare) → plain (deletion b c) ≡ deleted (either_tree b c)
+  deletion_plain b c = ap deleted (either_plain b c)
 
   -- ---- queries
 
@@ -73,8 +73,8 @@ module _ (place : Ptr) (global : Global) where
     question = record { form = variant.Sequenced (queries.Combined (boxed (queries.Select s)) (two_others (Except, queries.Select t) (Union, queries.Select u))) }
 
     -- the operators keep their order
-    question_stands : plain question ≡ sequenced (combined (simple (plain_select s)) (step Except (simple (plain_select t)) (step Union (simple (plain_select u)) last)))
-    question_stands =
+    question_plain : plain question ≡ sequenced (combined (simple (plain_select s)) (step Except (simple (plain_select t)) (step Union (simple (plain_select u)) last)))
+    question_plain =
         ap sequenced (combined_view (boxed (queries.Select s)) (two_others (Except, queries.Select t) (Union, queries.Select u))
         ∙ ap (λ (q : Query). combined q (step Except (plain_query (queries.Select t)) (step Union (plain_query (queries.Select u)) last))) (simple_view s)
         ∙ ap₂ (λ (q r : Query). combined (simple (plain_select s)) (step Except q (step Union r last))) (simple_view t) (simple_view u))

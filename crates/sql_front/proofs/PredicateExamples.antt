@@ -15,7 +15,7 @@ use Rattle.sql_statements.specs.Trees.{Condition, Statement, all, any, condition
 use Rattle.sql_front.specs.Grammar.{IsStatement}
 use Rattle.sql_front.specs.reading.Leaves.{literal_read, name_read, number_read, unsigned_read}
 use Rattle.sql_front.specs.reading.ConditionReaders.{column_read, compare_read, comparison_read, condition_read, conjunction_read, factor_read, inner_read, operand_read, test_read, where_read}
-use Rattle.sql_front.specs.reading.PredicateReaders.{begins_contains_date, period_operand_read, predicate_ahead, predicate_read, relation_behind_column, relation_read, relation_word, stored_test_read, dates_read}
+use Rattle.sql_front.specs.reading.PredicateReaders.{begins_contains_date, period_operand_read, predicate_ahead, predicate_read, relation_after_column, relation_read, relation_word, stored_test_read, dates_read}
 use Rattle.sql_front.specs.reading.WindowReaders.{for_window_read}
 use Rattle.sql_front.specs.reading.StatementReaders.{statement_read, stored_read, stored_table_read, later_statement_read, query_statement_read}
 use Rattle.sql_front.specs.reading.Reading.{bounded_read}
@@ -58,5 +58,5 @@ abbrev mixed_tree : Statement
 mixed_tree = asked (any (conditions_of (all (conditions_of (negated (test (Periods p Overlaps q)) ∷ grouped ∷ [])) ∷ [])))
 
 mixed_spelled : IsStatement mixed mixed_tree
-unfolding statement_read later_statement_read query_statement_read stored_read stored_table_read for_window_read where_read condition_read conjunction_read factor_read test_read inner_read stored_test_read predicate_ahead relation_behind_column relation_word predicate_read period_operand_read dates_read begins_contains_date relation_read compare_read operand_read comparison_read column_read literal_read unsigned_read number_read name_read bounded_read is_plain_word is_reserved
+unfolding statement_read later_statement_read query_statement_read stored_read stored_table_read for_window_read where_read condition_read conjunction_read factor_read test_read inner_read stored_test_read predicate_ahead relation_after_column relation_word predicate_read period_operand_read dates_read begins_contains_date relation_read compare_read operand_read comparison_read column_read literal_read unsigned_read number_read name_read bounded_read is_plain_word is_reserved
 mixed_spelled = spelled_if_read 1 mixed mixed_tree refl refl refl refl

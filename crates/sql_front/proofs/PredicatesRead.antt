@@ -14,7 +14,7 @@ use Rattle.sql_front.specs.Grammar.{name, IsWhere}
 use Rattle.sql_front.proofs.ReadGrammar.{IsColumn, IsCompare, IsDate, IsName, IsOperand, IsPeriodOperand, IsPredicate, IsRelation, IsStoredTest}
 use Rattle.sql_front.specs.reading.Reading.{begins}
 use Rattle.sql_front.specs.reading.ConditionReaders.{where_read}
-use Rattle.sql_front.specs.reading.PredicateReaders.{PredicateTail, begins_contains_date, contains_day, predicate_ahead, predicate_read, related, relation_behind_column, relation_word, predicate_of, tail_read, stored_test_read}
+use Rattle.sql_front.specs.reading.PredicateReaders.{PredicateTail, begins_contains_date, contains_day, predicate_ahead, predicate_read, related, relation_after_column, relation_word, predicate_of, tail_read, stored_test_read}
 use Rattle.sql_front.proofs.First.{Starts, begins_apart, starts_built, starts_preceded, starts_sequence}
 use Rattle.sql_front.proofs.Laws.{Reads, reads_both, reads_built, reads_decided, reads_preceded, reads_weaken}
 use Rattle.sql_front.proofs.LeavesRead.{reads_date, starts_date, starts_literal}
@@ -22,7 +22,7 @@ use Rattle.sql_front.proofs.Sorts.{Next, Sort, a_name, all_differ, any_of, apart
 use Rattle.sql_front.proofs.ConditionsRead.{comparison_firsts, dot, literal_firsts, operand_firsts, reads_compare_next, reads_where, starts_column, starts_compare, starts_comparison, test_ends, where_ends}
 use Rattle.sql_front.proofs.PeriodsRead.{next_to_firsts, period_firsts, reads_period_operand, reads_relation, relation_firsts, starts_dates, starts_next_to, starts_period_operand, starts_relation, starts_word}
 
--- ---- what is said of a period
+-- ---- the predicates of a period
 
 abbrev IsContainsDay : Language PredicateTail
 IsContainsDay = Built contains_day (Preceded (keyword (codes "CONTAINS")) IsDate)
@@ -91,7 +91,7 @@ starts_said = record {
   ];
 }
 
--- ---- predicates: the first period stands before the choice
+-- ---- predicates: the first period is before the choice
 
 abbrev IsSaidOf : Language StoredTest
 IsSaidOf = Built predicate_of (Sequence IsPeriodOperand IsPredicateTail)
@@ -116,38 +116,38 @@ reads_predicate = record {
   again = λ front t rest h n. reads_said_of.again front t rest (split_off front t h) n;
 }
 
--- ---- a predicate or a comparison, by what stands behind a column
+-- ---- a predicate or a comparison, by what is after a column
 
-bare_behind : (t : Lexeme) (z : List Lexeme) → begins dot z ≡ false → relation_behind_column (t ∷ z) ≡ begins relation_word z
-unfolding relation_behind_column
-bare_behind t z e = rw e refl
+relation_after_bare : (t : Lexeme) (z : List Lexeme) → begins dot z ≡ false → relation_after_column (t ∷ z) ≡ begins relation_word z
+unfolding relation_after_column
+relation_after_bare t z e = rw e refl
 
-qualified_behind : (t d u : Lexeme) (z : List Lexeme) → dot d ≡ true → relation_behind_column (t ∷ d ∷ u ∷ z) ≡ begins relation_word z
-unfolding relation_behind_column
-qualified_behind t d u z e = rw e refl
+relation_after_qualified : (t d u : Lexeme) (z : List Lexeme) → dot d ≡ true → relation_after_column (t ∷ d ∷ u ∷ z) ≡ begins relation_word z
+unfolding relation_after_column
+relation_after_qualified t d u z e = rw e refl
 
-name_behind : (y : List Lexeme) (v : List ℕ) (o : Option (List ℕ)) (x z : List Lexeme) → IsName y v → Optional (Preceded dot IsName) x o → begins dot z ≡ false → relation_behind_column (y ++ (x ++ z)) ≡ begins relation_word z
-name_behind y v None x z h k e =
+relation_after_name : (y : List Lexeme) (v : List ℕ) (o : Option (List ℕ)) (x z : List Lexeme) → IsName y v → Optional (Preceded dot IsName) x o → begins dot z ≡ false → relation_after_column (y ++ (x ++ z)) ≡ begins relation_word z
+relation_after_name y v None x z h k e =
     let t = h.2 in
-    ap relation_behind_column (ap (λ (w : List Lexeme). w ++ (x ++ z)) t.2 ∙ ap (λ (w : List Lexeme). t.0 ∷ (w ++ z)) k) ∙ bare_behind t.0 z e
-name_behind y v (Some q) x z h k e =
+    ap relation_after_column (ap (λ (w : List Lexeme). w ++ (x ++ z)) t.2 ∙ ap (λ (w : List Lexeme). t.0 ∷ (w ++ z)) k) ∙ relation_after_bare t.0 z e
+relation_after_name y v (Some q) x z h k e =
     let t = h.2 in
     let s = k.2 in
     let d = s.3 in
     let u = s.4.2 in
     let second : x ≡ d.0 ∷ u.0 ∷ [] = s.2 ∙ ap (λ (w : List Lexeme). w ++ s.1) d.2 ∙ ap (λ (w : List Lexeme). d.0 ∷ w) u.2 in
-    ap relation_behind_column (ap (λ (w : List Lexeme). w ++ (x ++ z)) t.2 ∙ ap (λ (w : List Lexeme). t.0 ∷ (w ++ z)) second) ∙ qualified_behind t.0 d.0 u.0 z d.1
+    ap relation_after_column (ap (λ (w : List Lexeme). w ++ (x ++ z)) t.2 ∙ ap (λ (w : List Lexeme). t.0 ∷ (w ++ z)) second) ∙ relation_after_qualified t.0 d.0 u.0 z d.1
 
-column_behind : (x : List Lexeme) (c : ColumnReference) (z : List Lexeme) → IsColumn x c → begins dot z ≡ false → relation_behind_column (x ++ z) ≡ begins relation_word z
-column_behind x c z h e =
+relation_after_whole_column : (x : List Lexeme) (c : ColumnReference) (z : List Lexeme) → IsColumn x c → begins dot z ≡ false → relation_after_column (x ++ z) ≡ begins relation_word z
+relation_after_whole_column x c z h e =
     let p = h.2 in
-    ap relation_behind_column (ap (λ (w : List Lexeme). w ++ z) p.2 ∙ append_assoc p.0 p.1 z) ∙ name_behind p.0 h.0.0 h.0.1 p.1 z p.3 p.4 e
+    ap relation_after_column (ap (λ (w : List Lexeme). w ++ z) p.2 ∙ append_assoc p.0 p.1 z) ∙ relation_after_name p.0 h.0.0 h.0.1 p.1 z p.3 p.4 e
 
 ahead_period : (z : List Lexeme) → begins (keyword (codes "PERIOD")) z ≡ true → predicate_ahead z ≡ true
 unfolding predicate_ahead
 ahead_period z e = rw e refl
 
-ahead_column : (z : List Lexeme) (b : Bool) → begins name z ≡ true → begins (keyword (codes "PERIOD")) z ≡ false → relation_behind_column z ≡ b → predicate_ahead z ≡ b
+ahead_column : (z : List Lexeme) (b : Bool) → begins name z ≡ true → begins (keyword (codes "PERIOD")) z ≡ false → relation_after_column z ≡ b → predicate_ahead z ≡ b
 unfolding predicate_ahead
 ahead_column z b e f h = rw (e, f, h) refl
 
@@ -158,7 +158,7 @@ not_ahead z e f = rw (e, f) refl
 named_ahead : (x : List Lexeme) (c : ColumnReference) (z : List Lexeme) (b : Bool) → IsColumn x c → begins dot z ≡ false → begins relation_word z ≡ b → predicate_ahead (x ++ z) ≡ b
 named_ahead x c z b h e f =
     let first = starts_column.at x c z h in
-    ahead_column (x ++ z) b first (begins_apart (apart_lists (a_name ∷ []) (word (codes "PERIOD") ∷ []) refl) (x ++ z) first) (column_behind x c z h e ∙ f)
+    ahead_column (x ++ z) b first (begins_apart (apart_lists (a_name ∷ []) (word (codes "PERIOD") ∷ []) refl) (x ++ z) first) (relation_after_whole_column x c z h e ∙ f)
 
 begins_relation : (z : List Lexeme) → begins (any_of relation_firsts) z ≡ true → begins relation_word z ≡ true
 unfolding relation_word

@@ -20,7 +20,7 @@ use Rattle.sql_front.proofs.Sorts.{a_name, all_differ, any_of, apart_lists, lead
 use Rattle.sql_front.proofs.ConditionsRead.{condition_ends, reads_column_next, reads_compare_condition, reads_compare_where, starts_where, where_ends}
 use Rattle.sql_front.proofs.WindowsRead.{reads_for_window}
 
--- ---- what may follow
+-- ---- the tokens that may follow
 
 abbrev pub query_ends : List Sort
 query_ends = sign (codes ")") ∷ []

@@ -23,7 +23,7 @@ use Rattle.sql_front.proofs.StatementExamples.{sign, word}
 
 -- ---- columns and new names
 
--- a column alone, and one behind the name of a table
+-- a column alone, and one after the name of a table
 abbrev pub column : List ℕ → ColumnReference
 column name = record { qualifier = None; name = name }
 

@@ -8,7 +8,7 @@ use Rattle.sql_front.specs.Builders.{chain_of, combined_of, item_of, join_of, se
 use Rattle.sql_front.specs.Grammar.{QueryBelow}
 use Rattle.sql_front.specs.Placeholders.{placeholders}
 use Rattle.sql_front.proofs.ReadGrammar.{IsChain, IsItem, IsJoin, IsNewName, IsPrimary, IsQuery, IsReference, IsSelect, IsSequenced, IsTerm}
-use Rattle.sql_front.proofs.Levels.{Level, level_built, level_choice, level_closed, level_enclosed, level_optional, level_preceded, level_preceded_or_not, level_repetition, level_separated, level_sequence, level_stands, plain_keyword}
+use Rattle.sql_front.proofs.Levels.{Level, level_built, level_choice, level_closed, level_enclosed, level_of_token, level_optional, level_preceded, level_preceded_or_not, level_repetition, level_separated, level_sequence, plain_keyword}
 use Rattle.sql_front.proofs.NamesRead.{level_name, plain_comma}
 use Rattle.sql_front.proofs.ConditionLevels.{level_column, level_compare, level_condition, level_where}
 use Rattle.sql_front.proofs.WindowsRead.{level_for_window}
@@ -39,10 +39,10 @@ level_select n k =
 level_query_of : (n k : ℕ) (L M : List Lexeme → Query → Type 0) → Level k (Enclosed L) (Enclosed M) → Level k (IsQuery n L) (IsQuery (suc k) M)
 level_query_of n k L M r =
     let primary : Level k (IsPrimary n L) (IsPrimary (suc k) M) = level_choice r (level_built simple (level_select n k)) in
-    let intersect = level_stands k Intersect (plain_keyword (codes "INTERSECT")) in
+    let intersect = level_of_token k Intersect (plain_keyword (codes "INTERSECT")) in
     let term : Level k (IsTerm n L) (IsTerm (suc k) M) =
     level_built term_of (level_sequence primary (level_repetition (level_sequence intersect (level_preceded_or_not (plain_keyword (codes "DISTINCT")) primary)))) in
-    let operator = level_choice (level_stands k Union (plain_keyword (codes "UNION"))) (level_stands k Except (plain_keyword (codes "EXCEPT"))) in
+    let operator = level_choice (level_of_token k Union (plain_keyword (codes "UNION"))) (level_of_token k Except (plain_keyword (codes "EXCEPT"))) in
     level_built combined_of (level_sequence term (level_repetition (level_sequence operator (level_preceded_or_not (plain_keyword (codes "DISTINCT")) term))))
 
 -- a query with so much room is one of that depth

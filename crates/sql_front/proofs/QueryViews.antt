@@ -1,4 +1,4 @@
--- What is read in parentheses, one level below.
+-- Queries in parentheses, read one level below.
 use Rattle.std.proofs.Common.{◌≡◌, ℕ, suc, ◌-◌, ◌<◌, List, None, refl, ap, ◌∙◌, arith}
 use Rattle.sql_statements.specs.Lexemes.{Lexeme}
 use Rattle.sql_front.specs.reading.QueryReaders.{inner_query_read, query_read, steps_read, step_read, term_read, intersections_read, intersection_read, primary_read}

@@ -1,11 +1,11 @@
--- Texts with quotes.
+-- The value of a quoted text: doubled quotes are cut to one.
 use Rattle.std.proofs.Common.{◌≡◌, ℕ, suc, lit<, ◌<◌, false, List, [], ◌∷◌, ◌++◌, length, get_or, refl, sym, ap, ◌∙◌, arith, Some, None}
 use Rattle.std.specs.Prelude.{◌≢◌}
 use Rattle.std.specs.Borrow.{Bor}
 use Rattle.std.proofs.lemmas.Bool.Decides.{nat_tests}
 use Rattle.std.proofs.lemmas.List.{append-nil}
 use Rattle.std.proofs.lemmas.Str.Pattern.{IsSplitOnceResult, split_parts}
-use Rattle.sql_front.specs.LiteralValues.{is_quote, behind_quote, unquoted, after_quote}
+use Rattle.sql_front.specs.LiteralValues.{is_quote, rest_after_quote, unquoted, after_quote}
 use Rattle.sql_front.specs.Quoting.{continued}
 
 -- no byte is a quote
@@ -29,13 +29,13 @@ pub unquoted_cut : (x y : List ℕ) → Plain x → unquoted (x ++ 39 ∷ y) ≡
 unquoted_cut [] y plain = refl
 unquoted_cut (b ∷ x) y plain = rw (plain_first b x plain, unquoted_cut x y (plain_more b x plain)) refl
 
-behind_plain : (x : List ℕ) → Plain x → behind_quote x ≡ []
-behind_plain [] plain = refl
-behind_plain (b ∷ x) plain = rw (plain_first b x plain, behind_plain x (plain_more b x plain)) refl
+rest_of_plain : (x : List ℕ) → Plain x → rest_after_quote x ≡ []
+rest_of_plain [] plain = refl
+rest_of_plain (b ∷ x) plain = rw (plain_first b x plain, rest_of_plain x (plain_more b x plain)) refl
 
-behind_cut : (x y : List ℕ) → Plain x → behind_quote (x ++ 39 ∷ y) ≡ y
-behind_cut [] y plain = refl
-behind_cut (b ∷ x) y plain = rw (plain_first b x plain, behind_cut x y (plain_more b x plain)) refl
+rest_of_cut : (x y : List ℕ) → Plain x → rest_after_quote (x ++ 39 ∷ y) ≡ y
+rest_of_cut [] y plain = refl
+rest_of_cut (b ∷ x) y plain = rw (plain_first b x plain, rest_of_cut x y (plain_more b x plain)) refl
 
 after_plain : (x : List ℕ) → Plain x → after_quote x ≡ []
 after_plain [] plain = refl
@@ -45,7 +45,7 @@ after_more : (x y : List ℕ) → Plain x → 0 < length x → after_quote (x ++
 after_more [] y plain some = absurd (omega (arith, some))
 after_more (b ∷ x) y plain some = rw (plain_first b x plain) refl
 
--- ---- what the code's cuts give
+-- ---- the cuts of the code
 
 pub no_cut : (s : List ℕ) → IsSplitOnceResult 39 s None → unquoted s ≡ s ++ []
 no_cut s h = unquoted_plain s (split_parts 39 s None h (lit< tt)) ∙ sym (append-nil s)
@@ -72,10 +72,10 @@ doubled_cut s x y h k none =
     let quote : x.1.now ≡ 39 ∷ y.1.now = q.0 ∙ ap (λ (z : List ℕ). z ++ 39 ∷ y.1.now) (empty_is y.0.now none) in
     ap unquoted p.0 ∙ unquoted_cut x.0.now x.1.now p.1 ∙ ap (λ (z : List ℕ). x.0.now ++ after_quote z) quote
 
-pub behind_none : (s : List ℕ) → IsSplitOnceResult 39 s None → behind_quote s ≡ []
-behind_none s h = behind_plain s (split_parts 39 s None h (lit< tt))
+pub rest_of_none : (s : List ℕ) → IsSplitOnceResult 39 s None → rest_after_quote s ≡ []
+rest_of_none s h = rest_of_plain s (split_parts 39 s None h (lit< tt))
 
-pub behind_some : (s : List ℕ) (x : Bor (List ℕ) × Bor (List ℕ)) → IsSplitOnceResult 39 s (Some x) → behind_quote s ≡ x.1.now
-behind_some s x h =
+pub rest_of_some : (s : List ℕ) (x : Bor (List ℕ) × Bor (List ℕ)) → IsSplitOnceResult 39 s (Some x) → rest_after_quote s ≡ x.1.now
+rest_of_some s x h =
     let p = split_parts 39 s (Some x) h (lit< tt) in
-    ap behind_quote p.0 ∙ behind_cut x.0.now x.1.now p.1
+    ap rest_after_quote p.0 ∙ rest_of_cut x.0.now x.1.now p.1

@@ -1,4 +1,4 @@
--- The grammar as it is read, where a literal that names no value has a stand-in.
+-- The grammar as it is read, if a literal that names no value has a stand-in.
 use Rattle.std.specs.Prelude.{ℕ, ℤ, List}
 use Rattle.period_core.specs.declared.value.Value.{Value}
 use Rattle.sql_statements.specs.declared.create.ColumnElement.{ColumnElement}

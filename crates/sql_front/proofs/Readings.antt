@@ -5,7 +5,7 @@ use Rattle.std.proofs.lemmas.List.{append-nil}
 use Rattle.sql_statements.specs.Lexemes.{Lexeme}
 use Rattle.sql_front.specs.Language.{Language, keyword, symbol, number, text, OneToken, Fixed, Sequence, Built, Denotes, Choice, Repetition, Optional, Preceded, PrecededOrNot, Separated, Enclosed}
 use Rattle.sql_front.specs.Grammar.{name}
-use Rattle.sql_front.specs.LiteralFaults.{HasBadDate, HasBadMoment, HasNumberOutside, ends_in_minus, limit_behind}
+use Rattle.sql_front.specs.LiteralFaults.{HasBadDate, HasBadMoment, HasNumberOutside, ends_in_minus, limit_after}
 use Rattle.sql_front.proofs.First.{Apart, apart_kinds, keyword_kind, number_kind, symbol_kind, symbols_apart, text_kind}
 use Rattle.sql_front.proofs.NameSorts.{name_kind}
 
@@ -35,14 +35,14 @@ no_fault_front x y f = record {
 }
 
 -- the last token of two lists is that of the second, if it has one
-minus_behind : (x : List Lexeme) (t : Lexeme) (y : List Lexeme) → ends_in_minus (x ++ t ∷ y) ≡ ends_in_minus (t ∷ y)
-minus_behind [] t y = refl
-minus_behind (s ∷ []) t y = refl
-minus_behind (s ∷ u ∷ x) t y = minus_behind (u ∷ x) t y
+minus_of_second : (x : List Lexeme) (t : Lexeme) (y : List Lexeme) → ends_in_minus (x ++ t ∷ y) ≡ ends_in_minus (t ∷ y)
+minus_of_second [] t y = refl
+minus_of_second (s ∷ []) t y = refl
+minus_of_second (s ∷ u ∷ x) t y = minus_of_second (u ∷ x) t y
 
 minus_of_both : (x y : List Lexeme) → ends_in_minus x ≡ false → ends_in_minus (x ++ y) ≡ ends_in_minus y
 minus_of_both x [] e = ap ends_in_minus (append-nil x) ∙ e
-minus_of_both x (t ∷ y) e = minus_behind x t y
+minus_of_both x (t ∷ y) e = minus_of_second x t y
 
 back_date : (x y : List Lexeme) → HasBadDate y → HasBadDate (x ++ y)
 back_date x y h = (x ++ h.0, h.1, h.2, h.3, ap (λ (z : List Lexeme). x ++ z) h.4 ∙ sym (append_assoc x h.0 (h.1 ∷ h.2 ∷ h.3)), h.5)
@@ -51,7 +51,7 @@ back_moment : (x y : List Lexeme) → HasBadMoment y → HasBadMoment (x ++ y)
 back_moment x y (inl h) = inl (x ++ h.0, h.1, h.2, h.3, ap (λ (z : List Lexeme). x ++ z) h.4 ∙ sym (append_assoc x h.0 (h.1 ∷ h.2 ∷ h.3)), h.5)
 back_moment x y (inr h) = inr (x ++ h.0, h.1, h.2, h.3, h.4, ap (λ (z : List Lexeme). x ++ z) h.5 ∙ sym (append_assoc x h.0 (h.1 ∷ h.2 ∷ h.3 ∷ h.4)), h.6, h.7, h.8, h.9)
 
-limit_of_both : (x y : List Lexeme) → ends_in_minus x ≡ false → limit_behind (x ++ y) ≡ limit_behind y
+limit_of_both : (x y : List Lexeme) → ends_in_minus x ≡ false → limit_after (x ++ y) ≡ limit_after y
 limit_of_both x y e = rw (minus_of_both x y e) refl
 
 back_number : (x y : List Lexeme) → ends_in_minus x ≡ false → HasNumberOutside y → HasNumberOutside (x ++ y)
@@ -70,11 +70,11 @@ no_fault_back x y e f = record {
 pub record Readings {A : Type 0} (Exact Read Loose : Language A) : Type 0 where
   -- without a fault, what is read is exact; and the text ends in no minus
   pub sharp : (x : List Lexeme) (a : A) → NoFault x → Read x a → Exact x a × (ends_in_minus x ≡ false)
-  -- what is exact is read
+  -- each exact reading is a reading
   pub known : (x : List Lexeme) (a : A) → Exact x a → Read x a
-  -- what is read is one of any values
+  -- each reading is one of any values
   pub loose : (x : List Lexeme) (a : A) → Read x a → Loose x a
-  -- where any value is spelled, some value is read
+  -- if any value is spelled, some value is read
   pub some : (x : List Lexeme) (a : A) → Loose x a → (b : A) × Read x b
 
 -- ---- tokens
@@ -199,8 +199,8 @@ module _ {A : Type 0} {E S Y : Language A} (r : Readings E S Y) where
   pub readings_repetition : Readings (Repetition E) (Repetition S) (Repetition Y)
   readings_repetition = record { sharp = repetition_sharp; known = repetition_known; loose = repetition_loose; some = repetition_some }
 
-pub readings_stands : {A : Type 0} (a : A) {test : Lexeme → Bool} → NoMinus test → Readings (Denotes a test) (Denotes a test) (Denotes a test)
-readings_stands a n = readings_built (λ (nothing : Unit {0}). a) (readings_fixed n)
+pub readings_of_token : {A : Type 0} (a : A) {test : Lexeme → Bool} → NoMinus test → Readings (Denotes a test) (Denotes a test) (Denotes a test)
+readings_of_token a n = readings_built (λ (nothing : Unit {0}). a) (readings_fixed n)
 
 pub readings_preceded : {A : Type 0} {test : Lexeme → Bool} {E S Y : Language A} → NoMinus test → Readings E S Y → Readings (Preceded test E) (Preceded test S) (Preceded test Y)
 readings_preceded {A} n r = readings_built (λ (v : Unit {0} × A). v.1) (readings_sequence (readings_fixed n) r)

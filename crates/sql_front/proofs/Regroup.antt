@@ -23,7 +23,7 @@ last_joins : {A : Type 0} (b : A) (bs : List A) → (last_of b bs).0 ++ (last_of
 last_joins b [] = refl
 last_joins {A} b (c ∷ bs) = ap (λ (v : List A). b ∷ v) (last_joins c bs)
 
--- what is split was two parts
+-- a split list was two parts
 split_parts : {A : Type 0} (a : A) (bs : List A) (parts : List A × A) → split_last (a ∷ bs) ≡ Some parts → (v : List A) × (parts.0 ≡ a ∷ v) × (bs ≡ v ++ parts.1 ∷ [])
 split_parts {A} a [] parts e = absurd (none_some parts e)
 split_parts {A} a (b ∷ bs) parts e =
@@ -47,7 +47,7 @@ module _ {A : Type 0} (sep : Lexeme → Bool) (L : List Lexeme → A → Type 0)
   abbrev AllAndLast : List Lexeme → List A × A → Type 0
   AllAndLast = Sequence (Separated sep L) (Preceded sep L)
 
-  -- all, and one more behind a separator, are all of them
+  -- all, and one more after a separator, are all of them
   pub joined : (ts : List Lexeme) (v : List A × A) → AllAndLast ts v → (a : A) × (more : List A) × (v.0 ≡ a ∷ more) × Separated sep L ts (a ∷ (more ++ v.1 ∷ []))
   joined ts v h =
       let front = h.3 in
@@ -62,7 +62,7 @@ module _ {A : Type 0} (sep : Lexeme → Bool) (L : List Lexeme → A → Type 0)
       let whole : ts ≡ (h.0 ++ k.0) ++ k.1 = h.2 ∙ ap (λ (w : List Lexeme). h.0 ++ w) k.2 ∙ sym (append_assoc h.0 k.0 k.1) in
       (h.0 ++ k.0, k.1, whole, ((pair.0, s.0), s.1, (h.0, k.0, refl, h.3, k.3)), k.4)
 
-  -- all of them, where the last can be split off
+  -- all of them, if the last can be split off
   pub taken_apart : (ts : List Lexeme) (all : List A) (parts : List A × A) → split_last all ≡ Some parts → Separated sep L ts all → AllAndLast ts parts
   taken_apart ts all parts e h = apart_at ts h.0 parts (ap split_last (sym h.1) ∙ e) h.2
 

@@ -104,7 +104,7 @@ apart_lists (a ∷ b ∷ v) w e =
     let parts = and_parts (differs_all a w) (all_differ (b ∷ v) w) e in
     or_apart (apart_one a w parts.0) (apart_lists (b ∷ v) w parts.1)
 
--- ---- the same
+-- ---- equal sorts
 
 abbrev pub same : Sort → Sort → Bool
 same (word v) (word w) = bytes_eq v w
@@ -157,7 +157,7 @@ any_in (a ∷ b ∷ v) w e t h =
     let parts = and_parts (is_in a w) (included (b ∷ v) w) e in
     elim (either_true (is a t) (any_of (b ∷ v) t) h) [ inl x ↦ in_any a w parts.0 t x | inr x ↦ any_in (b ∷ v) w parts.1 t x ]
 
--- ---- what comes next
+-- ---- the next token
 
 -- the end, or a token of one of the sorts
 pub record Next (ss : List Sort) (rest : List Lexeme) : Type 0 where
@@ -179,7 +179,7 @@ next_in v w e rest n = elim n.at [ inl h ↦ record { at = inl h } | inr h ↦ n
 pub next_not : (v w : List Sort) → all_differ v w ≡ true → (rest : List Lexeme) → Next v rest → begins (any_of w) rest ≡ false
 next_not v w e rest n = elim n.at [ inl h ↦ ap (begins (any_of w)) h | inr h ↦ begins_apart (apart_lists v w e) rest h ]
 
--- what follows a text of L that is followed by one of to, begins with one of from
+-- the text after one of L that is followed by one of to, begins with one of from
 pub record Leads {A : Type 0} (from to : List Sort) (L : List Lexeme → A → Type 0) : Type 0 where
   pub lead : (x : List Lexeme) (a : A) (rest : List Lexeme) → L x a → Next to rest → Next from (x ++ rest)
 

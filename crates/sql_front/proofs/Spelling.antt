@@ -1,4 +1,4 @@
--- What is read, against what is spelled.
+-- Statements that are read are the statements that are spelled, and none is spelled twice.
 use Rattle.std.proofs.Common.{◌≡◌, ℕ, Bool, true, false, List, Some, None, length, ◌↔◌}
 use Rattle.period_core.specs.Leasts.{NoneApplies}
 use Rattle.period_core.specs.declared.refusal.Refusal.TheVariants.{BadDate, BadMoment, NumberRange}
@@ -16,7 +16,7 @@ use Rattle.sql_front.proofs.LiteralFaultFacts.{bad_date_somewhere, bad_moment_so
 use Rattle.sql_front.proofs.Readings.{NoFault}
 use Rattle.sql_front.proofs.StatementsRead.{read_none, read_one, read_spelled}
 
--- where no refusal for a literal applies, nothing is wrong with one
+-- if no refusal for a literal applies, no literal has a fault
 pub no_fault : (ts : List Lexeme) → NoneApplies (LiteralApplies ts) → NoFault ts
 no_fault ts none = record { dates = none BadDate; moments = none BadMoment; numbers = none NumberRange }
 
@@ -24,7 +24,7 @@ untested : {D : Type 0} (test : Bool) → test ≡ true ↔ D → test ≡ false
 untested true i e d = absurd cc
 untested false i e d = let holds : false ≡ true = i.1 d in absurd cc
 
--- the same, where the tests find nothing
+-- if the tests find nothing, no literal has a fault
 tested : (ts : List Lexeme) → somewhere is_bad_date ts ≡ false → somewhere is_bad_moment ts ≡ false → number_above false ts ≡ false → NoFault ts
 tested ts date moment number = record {
   dates = untested (somewhere is_bad_date ts) (bad_date_somewhere ts) date;
@@ -32,12 +32,12 @@ tested ts date moment number = record {
   numbers = untested (number_above false ts) (number_somewhere ts) number;
 }
 
--- what is read of all of the tokens is spelled by them
+-- a statement that is read of all of the tokens is spelled by them
 pub spelled_if_read : (n : ℕ) (ts : List Lexeme) (s : Statement) → whole_read (statement_read n) ts ≡ Some s
     → somewhere is_bad_date ts ≡ false → somewhere is_bad_moment ts ≡ false → number_above false ts ≡ false → IsStatement ts s
 spelled_if_read n ts s e date moment number = spelled_exactly ts s (tested ts date moment number) (read_spelled n ts s e)
 
--- where nothing is read at a depth that they cannot reach, they spell none
+-- if nothing is read at a depth that the tokens cannot reach, they spell none
 pub none_if_unread : (ts : List Lexeme) → whole_read (statement_read (length ts)) ts ≡ None → SpellsNone ts
 none_if_unread ts e s spelled =
     let t = some_read ts s spelled in

@@ -49,13 +49,13 @@ selected column table = record {
 
 -- ---- set operators
 
--- INTERSECT binds tighter than EXCEPT, which stands before it
+-- INTERSECT binds tighter than EXCEPT, which is before it
 abbrev tighter : List Lexeme
 tighter =
     word (codes "VALIDTIME") ∷ select (codes "A") (codes "T") ++ word (codes "EXCEPT") ∷ select (codes "A") (codes "U")
     ++ word (codes "INTERSECT") ∷ select (codes "A") (codes "V")
 
--- its right side is what INTERSECT gives
+-- a query whose right side is an INTERSECT
 abbrev tied : Query
 tied =
     combined (simple (selected (codes "A") (codes "T")))

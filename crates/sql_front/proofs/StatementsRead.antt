@@ -121,11 +121,11 @@ read_one ts a b h k =
 
 -- ---- by reading
 
--- what is read of all of the tokens is spelled by them
+-- a statement that is read of all of the tokens is spelled by them
 pub read_spelled : (n : ℕ) (ts : List Lexeme) (s : Statement) → whole_read (statement_read n) ts ≡ Some s → IsStatement ts s
 read_spelled n ts s e = (suc n, whole_found (reads_statement n) ts s e)
 
--- where nothing is read at a depth that they cannot reach, they spell none
+-- if nothing is read at a depth that the tokens cannot reach, they spell none
 pub read_none : (ts : List Lexeme) → whole_read (statement_read (length ts)) ts ≡ None → (s : Statement) → IsStatement ts s → ⊥
 read_none ts e s h =
     none_some s (sym e ∙ whole_again (reads_statement (length ts)) (next_end []) ts s (at_depth (length ts) ts s (within_length ts) h))

@@ -62,7 +62,7 @@ table_pushed name es (reference_element r) =
       taken a_reference es (reference_element r) r refl,
     ) refl
 
--- the same for the program's elements
+-- an element of the program is added
 pub element_added : (name : List ℕ) (es : List tables.TableElement) (e : tables.TableElement)
     → with_element (table_of (name, (map plain_element es, tt))) (plain_element e)
     ≡ table_of (name, (map plain_element (es ++ e ∷ []), tt))

@@ -1,4 +1,4 @@
--- Which tokens name days and moments.
+-- The tokens that name days and moments.
 use Rattle.std.proofs.Common.{List, ◌↔◌, ℕ}
 use Rattle.std.specs.Prelude.{◌<ℤ◌, IsSome}
 use Rattle.period_core.specs.Calendar.{IsDayText}

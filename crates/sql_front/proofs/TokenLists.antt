@@ -1,4 +1,4 @@
--- What holds of the tokens of a script, and of any run of them.
+-- Facts of the tokens of a script, and of any run of them.
 use Rattle.std.proofs.Common.{◌≡◌, ℕ, ◌+◌, ◌-◌, ◌≤◌, List, ◌∷◌, length, take, drop, refl, sym, ap, subst, ◌∙◌, arith, length-drop, Result, Ok, Err, Vec, Global}
 use Rattle.std.specs.Prelude.{IfOk}
 use Rattle.std.specs.List.{All}
@@ -19,20 +19,20 @@ use Rattle.sql_front.proofs.ByteOrderMark.{mark_boundary}
 
 -- ---- a script has one list of tokens, or a first bad offset
 
-behind_blank : (at : ℕ) (bytes : List ℕ) (ts : List Lexeme) (n : ℕ) → first_lexeme bytes ≡ front.Blank n → TokensFrom at bytes ts → TokensFrom (at + n) (drop n bytes) ts
+after_blank : (at : ℕ) (bytes : List ℕ) (ts : List Lexeme) (n : ℕ) → first_lexeme bytes ≡ front.Blank n → TokensFrom at bytes ts → TokensFrom (at + n) (drop n bytes) ts
 unfolding first_lexeme
-behind_blank at bytes ts n e lexis.TokensFrom.ended = absurd cc
-behind_blank at bytes ts n e (lexis.TokensFrom.blank m f rest) =
+after_blank at bytes ts n e lexis.TokensFrom.ended = absurd cc
+after_blank at bytes ts n e (lexis.TokensFrom.blank m f rest) =
     let same : m ≡ n = cc in
     subst (λ (k : ℕ). TokensFrom (at + k) (drop k bytes) ts) same rest
-behind_blank at bytes ts n e (lexis.TokensFrom.token k m f rest) = absurd cc
+after_blank at bytes ts n e (lexis.TokensFrom.token k m f rest) = absurd cc
 
-behind_token : (at : ℕ) (bytes : List ℕ) (ts : List Lexeme) (k : TokenKind) (n : ℕ) → first_lexeme bytes ≡ front.Lexeme k n → TokensFrom at bytes ts
+after_token : (at : ℕ) (bytes : List ℕ) (ts : List Lexeme) (k : TokenKind) (n : ℕ) → first_lexeme bytes ≡ front.Lexeme k n → TokensFrom at bytes ts
     → (more : List Lexeme) × (ts ≡ record { kind = k; text = take n bytes; start = at; end = at + n } ∷ more) × TokensFrom (at + n) (drop n bytes) more
 unfolding first_lexeme
-behind_token at bytes ts k n e lexis.TokensFrom.ended = absurd cc
-behind_token at bytes ts k n e (lexis.TokensFrom.blank m f rest) = absurd cc
-behind_token at bytes ts k n e (lexis.TokensFrom.token {more = more} j m f rest) =
+after_token at bytes ts k n e lexis.TokensFrom.ended = absurd cc
+after_token at bytes ts k n e (lexis.TokensFrom.blank m f rest) = absurd cc
+after_token at bytes ts k n e (lexis.TokensFrom.token {more = more} j m f rest) =
     let kinds : j ≡ k = cc in
     let sizes : m ≡ n = cc in
     (more, cc, subst (λ (i : ℕ). TokensFrom (at + i) (drop i bytes) more) sizes rest)
@@ -44,9 +44,9 @@ none_fits at b rest bytes ts is e (lexis.TokensFrom.token k n f more) = cc
 
 pub never_both : (at : ℕ) (bytes : List ℕ) (ts : List Lexeme) (bad : ℕ) → TokensFrom at bytes ts → StopsFrom at bytes bad → ⊥
 never_both at bytes ts bad tokens (lexis.StopsFrom.here {b = b} {rest = rest} e) = none_fits at b rest (b ∷ rest) ts refl e tokens
-never_both at bytes ts bad tokens (lexis.StopsFrom.blank n e rest) = never_both (at + n) (drop n bytes) ts bad (behind_blank at bytes ts n e tokens) rest
+never_both at bytes ts bad tokens (lexis.StopsFrom.blank n e rest) = never_both (at + n) (drop n bytes) ts bad (after_blank at bytes ts n e tokens) rest
 never_both at bytes ts bad tokens (lexis.StopsFrom.token k n e rest) =
-    let t = behind_token at bytes ts k n e tokens in
+    let t = after_token at bytes ts k n e tokens in
     never_both (at + n) (drop n bytes) t.0 bad t.2 rest
 
 -- a script with tokens has no bad offset

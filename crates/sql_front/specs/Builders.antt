@@ -1,4 +1,4 @@
--- What the productions of the grammar build of their parts.
+-- Trees that the productions of the grammar build of their parts.
 use Rattle.std.specs.Prelude.{ℕ, ℤ, pos, List, [], ◌∷◌, Option, Some, None, filter_map}
 use Rattle.period_core.specs.declared.value.Value.{Value}
 use Rattle.period_core.specs.declared.value.Value.TheVariants as value

@@ -1,4 +1,4 @@
--- How deep parentheses nest.
+-- The depth of parentheses.
 use Rattle.std.specs.Prelude.{◌≡◌, ℕ, zero, suc, ◌+◌, ◌<◌, Bool, cond, List, [], ◌∷◌, ◌++◌, Option}
 use Rattle.std.specs.Prelude.{◌||◌, Some, None, is_none, codes}
 use Rattle.sql_statements.specs.Lexemes.{Lexeme}
@@ -13,12 +13,12 @@ opens = symbol (codes "(")
 abbrev pub closes : Lexeme → Bool
 closes = symbol (codes ")")
 
--- how many tokens pass a test
+-- the number of tokens that pass a test
 abbrev pub passing_count : (Lexeme → Bool) → List Lexeme → ℕ
 passing_count test [] = 0
 passing_count test (t ∷ ts) = cond (test t) (suc (passing_count test ts)) (passing_count test ts)
 
--- how many parentheses may be open
+-- the greatest number of parentheses that may be open
 abbrev pub most_open : ℕ
 most_open = 32
 
@@ -28,7 +28,8 @@ IsDeeper n lexemes =
     (front : List Lexeme) × (rest : List Lexeme) × (lexemes ≡ front ++ rest)
     × (n + passing_count closes front < passing_count opens front)
 
--- how many more may still open after these tokens, where `k` may open before them
+-- the number of parentheses that may still open after these tokens, of `k` that may open before
+-- them
 unfoldable pub room : ℕ → List Lexeme → Option ℕ
 room k [] = Some k
 room zero (t ∷ ts) = cond (opens t) None (cond (closes t) (room 1 ts) (room zero ts))

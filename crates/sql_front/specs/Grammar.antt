@@ -64,7 +64,7 @@ use Rattle.sql_front.specs.Literals.{Literals, exact}
 abbrev pub name : Lexeme → Bool
 name lexeme = is_word lexeme.kind && is_plain_word lexeme.text
 
--- what separates the items of a list
+-- the token that separates the items of a list
 abbrev pub comma : Lexeme → Bool
 comma = symbol (codes ",")
 
@@ -114,7 +114,7 @@ module _ (literals : Literals) where
   abbrev pub IsMoment : Language ℤ
   IsMoment = Preceded (keyword (codes "TIMESTAMP")) literals.moment
 
-  -- the same, before the open end
+  -- a moment before the open end
   abbrev pub IsClockMoment : Language ℤ
   IsClockMoment = Preceded (keyword (codes "TIMESTAMP")) literals.clock_moment
 

@@ -35,11 +35,11 @@ is_symbol Number = false
 is_symbol Text = false
 is_symbol Symbol = true
 
--- this word, in any case
+-- a keyword, in any case
 abbrev pub keyword : List ℕ → Lexeme → Bool
 keyword word lexeme = is_word lexeme.kind && bytes_eq (folded lexeme.text) (folded word)
 
--- this symbol
+-- a symbol
 abbrev pub symbol : List ℕ → Lexeme → Bool
 symbol sign lexeme = is_symbol lexeme.kind && bytes_eq lexeme.text sign
 
@@ -73,11 +73,11 @@ abbrev pub Sequence : {A B : Type 0} → Language A → Language B → Language 
 Sequence L M lexemes pair =
     (x : List Lexeme) × (y : List Lexeme) × (lexemes ≡ x ++ y) × L x pair.0 × M y pair.1
 
--- what is built of a value
+-- a language whose values are built of another's
 abbrev pub Built : {A B : Type 0} → (A → B) → Language A → Language B
 Built {A} build L lexemes b = (a : A) × (b ≡ build a) × L lexemes a
 
--- what is in this relation to a value
+-- a language whose values are in this relation to another's
 abbrev pub Related : {A B : Type 0} → (A → B → Type 0) → Language A → Language B
 Related {A} R L lexemes b = (a : A) × R a b × L lexemes a
 

@@ -1,4 +1,4 @@
--- What is wrong with the literals of a piece. A date is a text after the word DATE, a moment is
+-- Faults of the literals of a piece. A date is a text after the word DATE, a moment is
 -- one after TIMESTAMP, and a number counts with the minus before it.
 use Rattle.std.specs.Prelude.{◌≡◌, ◌<◌, ◌⊎◌, ◌+◌, ℕ, Bool, true, false, cond, List, [], ◌∷◌, ◌++◌}
 use Rattle.std.specs.Prelude.{codes}
@@ -39,19 +39,19 @@ HasOpenEnd lexemes =
 abbrev pub HasBadMoment : List Lexeme → Type 0
 HasBadMoment lexemes = HasNoMoment lexemes ⊎ HasOpenEnd lexemes
 
--- the last of these tokens is a minus
+-- the last of the tokens is a minus
 abbrev pub ends_in_minus : List Lexeme → Bool
 ends_in_minus [] = false
 ends_in_minus (t ∷ []) = symbol (codes "-") t
 ends_in_minus (t ∷ u ∷ more) = ends_in_minus (u ∷ more)
 
 -- the greatest value that digits after these tokens may have, for a number of 64 bits signed
-abbrev pub limit_behind : List Lexeme → ℕ
-limit_behind front = cond (ends_in_minus front) (greatest_number + 1) greatest_number
+abbrev pub limit_after : List Lexeme → ℕ
+limit_after front = cond (ends_in_minus front) (greatest_number + 1) greatest_number
 
 -- some number, with its sign, is outside 64 bits signed
 abbrev pub HasNumberOutside : List Lexeme → Type 0
 HasNumberOutside lexemes =
     (front : List Lexeme) × (token : Lexeme) × (rest : List Lexeme)
     × (lexemes ≡ front ++ token ∷ rest)
-    × (number token ≡ true) × (limit_behind front < number_of_digits token.text)
+    × (number token ≡ true) × (limit_after front < number_of_digits token.text)

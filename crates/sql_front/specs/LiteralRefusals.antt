@@ -1,4 +1,4 @@
--- Which refusals the literals of a piece call for.
+-- The refusals that the literals of a piece call for.
 use Rattle.std.specs.Prelude.{List}
 use Rattle.period_core.specs.declared.refusal.Refusal.{Refusal}
 use Rattle.period_core.specs.declared.refusal.Refusal.TheVariants.{BadDate, BadMoment, NumberRange}

@@ -13,18 +13,18 @@ somewhere test [] = false
 somewhere test (t ∷ rest) = test t rest || somewhere test rest
 
 -- the text after this word
-abbrev pub text_behind : List ℕ → Lexeme → List Lexeme → Option (List ℕ)
-text_behind word t [] = None
-text_behind word t (u ∷ rest) = cond (text u && keyword word t) (Some u.text) None
+abbrev pub text_after : List ℕ → Lexeme → List Lexeme → Option (List ℕ)
+text_after word t [] = None
+text_after word t (u ∷ rest) = cond (text u && keyword word t) (Some u.text) None
 
 -- there is a text, and nothing is read of it
 abbrev pub names_none : (List ℕ → Option ℤ) → Option (List ℕ) → Bool
 names_none read None = false
 names_none read (Some token) = is_none (read token)
 
--- this word, then a text of which nothing is read
+-- a keyword, then a text of which nothing is read
 abbrev pub is_unread : List ℕ → (List ℕ → Option ℤ) → Lexeme → List Lexeme → Bool
-is_unread word read t rest = names_none read (text_behind word t rest)
+is_unread word read t rest = names_none read (text_after word t rest)
 
 -- DATE, then a text that names no day
 abbrev pub is_bad_date : Lexeme → List Lexeme → Bool
@@ -51,7 +51,7 @@ is_above minus t =
     number t
     && nat_lt (cond minus (greatest_number + 1) greatest_number) (number_of_digits t.text)
 
--- some number is, where a minus or none comes before the tokens
+-- some number is, if a minus or none precedes the tokens
 abbrev pub number_above : Bool → List Lexeme → Bool
 number_above minus [] = false
 number_above minus (t ∷ rest) = is_above minus t || number_above (symbol (codes "-") t) rest

@@ -33,18 +33,18 @@ NamesNegative digits value =
 abbrev pub is_quote : ℕ → Bool
 is_quote byte = byte == 39
 
--- what comes after the first quote
-abbrev pub behind_quote : List ℕ → List ℕ
-behind_quote [] = []
-behind_quote (byte ∷ rest) = cond (is_quote byte) rest (behind_quote rest)
+-- the bytes after the first quote
+abbrev pub rest_after_quote : List ℕ → List ℕ
+rest_after_quote [] = []
+rest_after_quote (byte ∷ rest) = cond (is_quote byte) rest (rest_after_quote rest)
 
--- what comes before a quote that no quote follows, with one quote for each two
+-- the bytes before a quote that no quote follows, with one quote for each two
 abbrev mutual
   pub unquoted : List ℕ → List ℕ
   unquoted [] = []
   unquoted (byte ∷ rest) = cond (is_quote byte) (after_quote rest) (byte ∷ unquoted rest)
 
-  -- the same, where a quote has just been read
+  -- the bytes after a quote that has just been read
   pub after_quote : List ℕ → List ℕ
   after_quote [] = []
   after_quote (byte ∷ rest) = cond (is_quote byte) (39 ∷ unquoted rest) []
@@ -52,7 +52,7 @@ abbrev mutual
 -- the value of a text token: what is between its first quote and its last, with one quote for each
 -- two
 abbrev pub text_value : List ℕ → List ℕ
-text_value token = unquoted (behind_quote token)
+text_value token = unquoted (rest_after_quote token)
 
 -- ---- dates and moments
 
@@ -69,18 +69,18 @@ NamesDay token day = IsDayText day (between_quotes token)
 abbrev pub NamesMoment : List ℕ → ℤ → Type 0
 NamesMoment token moment = IsMomentText moment (between_quotes token)
 
--- the same, before the open end
+-- a moment that a text names, before the open end
 abbrev pub NamesClockMoment : List ℕ → ℤ → Type 0
 NamesClockMoment token moment = NamesMoment token moment × (moment <ℤ forever)
 
--- the token's text is that of a day
+-- the token's text is a day's
 abbrev pub IsDateToken : List ℕ → Type 0
 IsDateToken token = (day : ℤ) × NamesDay token day
 
--- the token's text is that of a moment
+-- the token's text is a moment's
 abbrev pub IsMomentToken : List ℕ → Type 0
 IsMomentToken token = (moment : ℤ) × NamesMoment token moment
 
--- the token's text is that of a moment before the open end
+-- the token's text is a moment's before the open end
 abbrev pub IsClockToken : List ℕ → Type 0
 IsClockToken token = (moment : ℤ) × NamesClockMoment token moment

@@ -1,10 +1,10 @@
--- What the literals of a statement mean.
+-- The meaning of the literals of a statement.
 use Rattle.std.specs.Prelude.{ℕ, ℤ}
 use Rattle.sql_front.specs.Language.{Language, OneToken, Related, number, text}
 use Rattle.sql_front.specs.LiteralValues.{NamesClockMoment, NamesDay, NamesMoment, NamesNegative}
 use Rattle.sql_front.specs.LiteralValues.{NamesNumber}
 
--- which token is which number, day or moment
+-- the tokens that stand for numbers, days and moments
 pub record Literals : Type 1 where
   -- a number without a sign, or with a plus
   pub plain_number : Language ℕ
@@ -14,7 +14,7 @@ pub record Literals : Type 1 where
   pub day : Language ℤ
   -- a text after TIMESTAMP
   pub moment : Language ℤ
-  -- a text after TIMESTAMP, where the open end is none
+  -- a text after TIMESTAMP, if the open end is none
   pub clock_moment : Language ℤ
 
 -- each token is the value that it names

@@ -1,4 +1,4 @@
--- When a piece of a script is refused for its syntax or for its literals.
+-- A piece of a script that is refused for its syntax or for its literals.
 use Rattle.std.specs.Prelude.{List}
 use Rattle.period_core.specs.declared.refusal.Refusal.{Refusal}
 use Rattle.period_core.specs.declared.refusal.Refusal.TheVariants.{Syntax, TooDeep, BadDate}
@@ -14,7 +14,7 @@ use Rattle.sql_front.specs.LiteralFaults.{HasBadDate, HasBadMoment, HasNumberOut
 abbrev pub IsTooDeep : List Lexeme → Type 0
 IsTooDeep lexemes = IsDeeper most_open lexemes
 
--- no statement is spelled so, even where each literal may be any value
+-- no statement is spelled so, even if each literal may be any value
 abbrev pub SpellsNone : List Lexeme → Type 0
 SpellsNone lexemes = (statement : Statement) → Spells any_value lexemes statement → ⊥
 

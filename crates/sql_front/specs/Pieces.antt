@@ -10,7 +10,7 @@ use Rattle.sql_statements.specs.Lexemes.{Lexeme}
 abbrev pub is_semicolon : Lexeme → Bool
 is_semicolon token = bytes_eq token.text (codes ";")
 
--- none of these is a semicolon
+-- none of the tokens is a semicolon
 abbrev pub HasNoSemicolon : List Lexeme → Type 0
 HasNoSemicolon tokens = list_any is_semicolon tokens ≡ false
 
@@ -26,12 +26,12 @@ abbrev pub is_nonempty : List Lexeme → Bool
 is_nonempty [] = false
 is_nonempty (token ∷ tokens) = true
 
--- the pieces of these tokens: the parts that are not empty, in order
+-- the pieces of the tokens: the parts that are not empty, in order
 abbrev pub HasPieces : List Lexeme → List (List Lexeme) → Type 0
 HasPieces tokens pieces =
     (parts : List (List Lexeme)) × Joined parts tokens × (pieces ≡ filter is_nonempty parts)
 
--- the spans of parts that are joined with one token between each two, where the first begins at a
+-- the spans of parts that are joined with one token between each two, if the first begins at a
 -- place
 abbrev pub spans_from : ℕ → List (List Lexeme) → List Span
 spans_from start [] = []
@@ -43,7 +43,7 @@ spans_from start (part ∷ parts) =
 abbrev pub is_filled : Span → Bool
 is_filled span = nat_lt span.start span.end
 
--- the spans of the pieces of these tokens, in order, where the first of the tokens is at a place:
+-- the spans of the pieces of these tokens, in order, if the first of the tokens is at a place:
 -- of each two equal pieces each has its own
 abbrev pub HasSpans : ℕ → List Lexeme → List Span → Type 0
 HasSpans start tokens spans =

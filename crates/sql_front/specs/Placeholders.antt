@@ -1,4 +1,4 @@
--- What literals mean as they are read: one that names no value has a stand-in.
+-- The meaning of literals as they are read: one that names no value has a stand-in.
 use Rattle.sql_front.specs.reading.LeafValues.{clock_value, day_value, moment_value, negative_value}
 use Rattle.sql_front.specs.reading.LeafValues.{number_value}
 use Rattle.sql_front.specs.Language.{Built, OneToken, number, text}

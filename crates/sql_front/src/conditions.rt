@@ -30,7 +30,7 @@ pub trait Test: Sized + Drop {
         ensures rest { IfOk result (λ x. length x.1.now ≤ length tokens.now) };
 }
 
-/// The chain of OR of the first part and of the others after it.
+/// The chain of OR of the first part and of the rest.
 #[tactic(auto, using(crate::proofs::ConditionViews::or_view))]
 fn or_chain<T: Drop>(
     alloc: Global,
@@ -43,7 +43,7 @@ fn or_chain<T: Drop>(
     Ok(Tree::Or(Box::new(alloc, first)?, others))
 }
 
-/// The chain of AND of the first part and of the others after it.
+/// The chain of AND of the first part and of the rest.
 #[tactic(auto, using(crate::proofs::ConditionViews::and_view))]
 fn and_chain<T: Drop>(
     alloc: Global,
@@ -152,7 +152,7 @@ fn read_test<'a, 'b, T: Test>(
     match expect(rest, Terminal::Symbol(")")) {
         Ok(rest) => Ok((inner, rest)),
         Err(error) => {
-            // By a call: the proof of an implicit drop goes through the whole of a condition.
+            // By a call: the proof of an implicit drop walks through the whole of a condition.
             drop(inner);
             Err(error)
         }

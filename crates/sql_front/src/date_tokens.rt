@@ -139,7 +139,7 @@ pub fn clock_moment_of_token(token: &str) -> Option<ClockMoment>
     clock_moment_at(token)
 }
 
-/// The day that a text token names: the first day where it names none.
+/// The day that a text token names: the first day if it names none.
 #[tactic(auto, unfolding(crate::specs::reading::LeafValues::day_value))]
 pub fn named_day(token: &str) -> Day
     ensures { result ≡ day_value token.now }
@@ -150,7 +150,7 @@ pub fn named_day(token: &str) -> Day
     }
 }
 
-/// The moment that a text token names: the first moment where it names none.
+/// The moment that a text token names: the first moment if it names none.
 #[tactic(auto, unfolding(crate::specs::reading::LeafValues::moment_value))]
 pub fn named_moment(token: &str) -> Moment
     ensures { result ≡ moment_value token.now }
@@ -161,7 +161,7 @@ pub fn named_moment(token: &str) -> Moment
     }
 }
 
-/// The moment before the open end that a text token names: the first moment where it names none.
+/// The moment before the open end that a text token names: the first moment if it names none.
 #[tactic(auto, unfolding(crate::specs::reading::LeafValues::clock_value))]
 pub fn named_clock_moment(token: &str) -> ClockMoment
     ensures { result ≡ clock_value token.now }

@@ -1,4 +1,4 @@
-//! How deep parentheses nest.
+//! The depth of parentheses.
 
 ghost use Rattle.std.specs.Prelude.{◌≡◌, ◌+◌, ◌<◌, ◌≤◌, ◌∷◌, [], ◌^◌, List, is_none};
 ghost use Rattle.sql_statements.specs.Lexemes.{Lexeme, lexeme};
@@ -7,14 +7,14 @@ ghost use Rattle.sql_front.specs.Depth.{is_too_small, most_open, room};
 use crate::terminal::{Terminal, is_terminal};
 use sql_statements::token::Token;
 
-/// How many parentheses may be open.
+/// The greatest number of parentheses that may be open.
 pub const MOST_OPEN: usize = 32;
 
-/// How many more parentheses may open.
+/// The number of parentheses that may still open.
 #[derive(Clone, Copy)]
 pub struct Room {
     left: usize,
-    /// One opened where none was left.
+    /// One opened if none was left.
     is_exceeded: bool,
 }
 

@@ -60,7 +60,7 @@ pub fn is_number_above(digits: &str, limit: u64) -> bool
     digits.len() > FEW && number_up_to(digits, limit).is_none()
 }
 
-/// The value of a number without a minus: 0 where it is outside 64 bits signed.
+/// The value of a number without a minus: 0 if it is outside 64 bits signed.
 pub fn number_value(digits: &str) -> u64
     ensures value { result ≡ leaves.number_value digits.now }
     ensures fits { result ≤ greatest_number }
@@ -71,7 +71,7 @@ pub fn number_value(digits: &str) -> u64
     }
 }
 
-/// The value of a number with a minus: 0 where it is outside 64 bits signed.
+/// The value of a number with a minus: 0 if it is outside 64 bits signed.
 pub fn negative_value(digits: &str) -> i64
     ensures { result ≡ leaves.negative_value digits.now }
 {

@@ -1,4 +1,4 @@
-//! What follows from the grammar. The function does nothing: its contract is a law.
+//! Consequences of the grammar. The function does nothing: its contract is a law.
 
 ghost use Rattle.sql_front.specs.Laws.{SpellsOne};
 

@@ -1,4 +1,4 @@
-//! What is wrong with the literals of a piece: dates, moments and numbers.
+//! Faults of the literals of a piece: dates, moments and numbers.
 
 ghost use Rattle.std.specs.Prelude.{◌≡◌, codes, option_copied};
 ghost use Rattle.sql_front.specs.reading.LeafValues.{clock_of_token};
@@ -12,11 +12,11 @@ use period_core::GREATEST_NUMBER;
 use sql_statements::token::{Token, TokenKind};
 
 /// The text after this keyword, if the next token is one.
-// Few tokens are words, and few words have a text behind them, so that is asked first.
+// Few tokens are words, and few words have a text after them, so that is asked first.
 #[inline(always)]
-fn text_behind<'a>(word: &str, first: &Token<'_>, after: &[Token<'a>]) -> Option<&'a str>
+fn text_after<'a>(word: &str, first: &Token<'_>, after: &[Token<'a>]) -> Option<&'a str>
     ensures { option_copied result
-        ≡ tests.text_behind word.now (lexeme first.now) (lexemes after.now) }
+        ≡ tests.text_after word.now (lexeme first.now) (lexemes after.now) }
 {
     if first.kind != TokenKind::Word {
         return None;
@@ -34,7 +34,7 @@ fn text_behind<'a>(word: &str, first: &Token<'_>, after: &[Token<'a>]) -> Option
 pub fn is_bad_date(first: &Token<'_>, after: &[Token<'_>]) -> bool
     ensures { result ≡ tests.is_bad_date (lexeme first.now) (lexemes after.now) }
 {
-    match text_behind("DATE", first, after) {
+    match text_after("DATE", first, after) {
         Some(token) => names_no_day(token),
         None => false,
     }
@@ -43,7 +43,7 @@ pub fn is_bad_date(first: &Token<'_>, after: &[Token<'_>]) -> bool
 fn is_no_moment(first: &Token<'_>, after: &[Token<'_>]) -> bool
     ensures { result ≡ tests.is_no_moment (lexeme first.now) (lexemes after.now) }
 {
-    match text_behind("TIMESTAMP", first, after) {
+    match text_after("TIMESTAMP", first, after) {
         Some(token) => moment_of_token(token).is_none(),
         None => false,
     }
@@ -53,7 +53,7 @@ fn is_no_clock_moment(first: &Token<'_>, after: &[Token<'_>]) -> bool
     ensures { result ≡ tests.is_unread (codes "TIMESTAMP") clock_of_token
         (lexeme first.now) (lexemes after.now) }
 {
-    match text_behind("TIMESTAMP", first, after) {
+    match text_after("TIMESTAMP", first, after) {
         Some(token) => clock_moment_of_token(token).is_none(),
         None => false,
     }

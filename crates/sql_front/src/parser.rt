@@ -37,7 +37,7 @@ pub fn parse(alloc: Global, _script: &str, tokens: &[Token<'_>]) -> Result<State
         Ok(statement) => match literal {
             None => Ok(statement),
             Some(refusal) => {
-                // By a call: the proof of an implicit drop goes through each kind of statement.
+                // By a call: the proof of an implicit drop walks through each kind of statement.
                 drop(statement);
                 Err(refusal)
             }

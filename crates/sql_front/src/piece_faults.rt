@@ -1,4 +1,4 @@
-//! What is wrong with a piece, whatever its tokens spell.
+//! Faults of a piece, whatever its tokens spell.
 
 ghost use Rattle.std.specs.Prelude.{◌≡◌, ◌↔◌, false, IsTrue, IfSome, IfNone};
 ghost use Rattle.period_core.specs.Leasts.{IsLeast, NoneApplies};
@@ -13,7 +13,7 @@ use crate::terminal::{Terminal, is_terminal};
 use period_core::Refusal;
 use sql_statements::token::Token;
 
-/// What is wrong somewhere in a piece.
+/// The faults that are somewhere in a piece.
 #[derive(Clone, Copy)]
 struct Faults {
     /// Up to some token there are over 32 more `(` than `)`.
@@ -26,7 +26,7 @@ struct Faults {
     number_outside: bool,
 }
 
-/// What is wrong somewhere in a piece: one pass over its tokens.
+/// The faults that are somewhere in a piece: one pass over its tokens.
 fn faults_of(tokens: &[Token<'_>]) -> Faults
     ensures depth { IsTrue result.too_deep ↔ IsDeeper most_open (lexemes tokens.now) }
     ensures dates { IsTrue result.bad_date ↔ HasBadDate (lexemes tokens.now) }
@@ -70,7 +70,7 @@ pub fn piece_faults(tokens: &[Token<'_>]) -> PieceFaults
     // The refusal for a literal is the lowest-numbered one whose condition holds.
     ensures least { IfSome result.literal (IsLeast (LiteralApplies (lexemes tokens.now))) }
 
-    // There is none only where no condition holds.
+    // There is none only if no condition holds.
     ensures none { IfNone result.literal (NoneApplies (LiteralApplies (lexemes tokens.now))) }
 {
     let faults = faults_of(tokens);

@@ -40,7 +40,7 @@ impl Lexed for Token<'_> {
     }
 }
 
-/// The pieces of the tokens of a script, in order: what is between semicolons, where that is not
+/// The pieces of the tokens of a script, in order: what is between semicolons, if that is not
 /// empty. The last piece needs no semicolon.
 pub(crate) fn cut_all<T: Lexed>(
     alloc: Global,
@@ -73,7 +73,7 @@ pub(crate) fn cut_all<T: Lexed>(
     Ok(spans)
 }
 
-/// The pieces of these tokens, in order: what is between semicolons, where that is not empty.
+/// The pieces of these tokens, in order: what is between semicolons, if that is not empty.
 /// The last piece needs no semicolon.
 pub fn cut(alloc: Global, tokens: &[Token<'_>]) -> Result<Vec<Span>, Memory>
     ensures pieces { IfOk result

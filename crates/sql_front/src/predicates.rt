@@ -5,7 +5,7 @@ ghost use Rattle.sql_front.specs.reading.Gives.{Gives};
 ghost use Rattle.sql_statements.specs.Lexemes.{lexemes};
 ghost use Rattle.sql_front.specs.reading.PredicateReaders.{begins_contains_date, dates_read};
 ghost use Rattle.sql_front.specs.reading.PredicateReaders.{period_operand_read, predicate_ahead};
-ghost use Rattle.sql_front.specs.reading.PredicateReaders.{predicate_read, relation_behind_column};
+ghost use Rattle.sql_front.specs.reading.PredicateReaders.{predicate_read, relation_after_column};
 ghost use Rattle.sql_front.specs.reading.PredicateReaders.{relation_read, relation_word};
 ghost use Rattle.sql_front.specs.reading.PredicateReaders.{stored_test_read};
 ghost use Rattle.sql_front.specs.reading.Reading.{begins};
@@ -138,9 +138,9 @@ fn starts_relation(tokens: &[Token<'_>]) -> bool
 }
 
 /// Does such a word come after the column that the tokens begin with?
-#[tactic(auto, unfolding(crate::specs::reading::PredicateReaders::relation_behind_column))]
-fn has_relation_behind_column(tokens: &[Token<'_>]) -> bool
-    ensures { result ≡ relation_behind_column (lexemes tokens.now) }
+#[tactic(auto, unfolding(crate::specs::reading::PredicateReaders::relation_after_column))]
+fn has_relation_after_column(tokens: &[Token<'_>]) -> bool
+    ensures { result ≡ relation_after_column (lexemes tokens.now) }
 {
     match tokens {
         [] => false,
@@ -156,7 +156,7 @@ fn is_predicate_ahead(tokens: &[Token<'_>]) -> bool
     ensures { result ≡ predicate_ahead (lexemes tokens.now) }
 {
     starts(tokens, Terminal::Keyword("PERIOD"))
-        || (starts_name(tokens) && has_relation_behind_column(tokens))
+        || (starts_name(tokens) && has_relation_after_column(tokens))
 }
 
 /// A period predicate or a comparison, and the tokens after it.

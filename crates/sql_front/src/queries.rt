@@ -67,7 +67,7 @@ fn combined(
     Ok(QueryTree::Combined(Box::new(alloc, first)?, steps))
 }
 
-/// The query of a term: its first part, alone where no intersections come after it.
+/// The query of a term: its first part, alone if no intersections come after it.
 fn term(
     alloc: Global,
     first: QueryTree<SelectDistinct>,
@@ -98,7 +98,7 @@ pub fn read_query<'a, 'b>(
     match read_steps(alloc, depth, rest) {
         Ok((steps, rest)) => Ok((combined(alloc, first, steps)?, rest)),
         Err(error) => {
-            // By a call: the proof of an implicit drop goes through the whole of a query.
+            // By a call: the proof of an implicit drop walks through the whole of a query.
             drop(first);
             Err(error)
         }
@@ -179,7 +179,7 @@ fn read_term<'a, 'b>(
     match read_intersections(alloc, depth, rest) {
         Ok((steps, rest)) => Ok((term(alloc, first, steps)?, rest)),
         Err(error) => {
-            // By a call: the proof of an implicit drop goes through the whole of a query.
+            // By a call: the proof of an implicit drop walks through the whole of a query.
             drop(first);
             Err(error)
         }
@@ -251,14 +251,14 @@ fn read_primary<'a, 'b>(
     match expect(rest, Terminal::Symbol(")")) {
         Ok(rest) => Ok((inner, rest)),
         Err(error) => {
-            // By a call: the proof of an implicit drop goes through the whole of a query.
+            // By a call: the proof of an implicit drop walks through the whole of a query.
             drop(inner);
             Err(error)
         }
     }
 }
 
-/// A query in parentheses, where `depth` may open, and the tokens after it.
+/// A query in parentheses, if `depth` may open, and the tokens after it.
 #[cycle(queries)]
 #[tactic(auto, using(crate::proofs::QueryViews::inner_views))]
 fn read_inner_query<'a, 'b>(

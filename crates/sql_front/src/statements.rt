@@ -91,7 +91,7 @@ fn read_all(alloc: Global, tokens: &[Token<'_>]) -> Result<Statement, ReadError>
 {
     let (found, rest) = read_statement(alloc, tokens)?;
     if !rest.is_empty() {
-        // By a call: the proof of an implicit drop goes through each kind of statement.
+        // By a call: the proof of an implicit drop walks through each kind of statement.
         drop(found);
         return Err(ReadError::Syntax);
     }

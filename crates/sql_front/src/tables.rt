@@ -122,7 +122,7 @@ fn add_element(table: &mut CreateTable, element: TableElement) -> Result<(), Mem
     }
 }
 
-// The table of these elements, each kind in its order.
+// The table with these elements, each kind in its order.
 fn table_with(
     alloc: Global,
     name: Name,

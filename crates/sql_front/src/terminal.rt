@@ -6,7 +6,7 @@ ghost use Rattle.sql_statements.specs.Lexemes.{lexeme, lexemes};
 ghost use Rattle.sql_front.specs.Language.{number, text};
 ghost use Rattle.sql_front.specs.Grammar.{name};
 ghost use Rattle.sql_statements.specs.Names.{is_plain_word};
-ghost use Rattle.sql_front.specs.reading.Reading.{begins, behind_optional, third_is, fixed_read};
+ghost use Rattle.sql_front.specs.reading.Reading.{after_optional, begins, fixed_read, third_is};
 ghost use Rattle.sql_front.specs.reading.Reading.{one_read};
 ghost use Rattle.sql_front.specs.Terminals.{terminal};
 ghost use Rattle.sql_front.specs.reading.Gives.{Gives};
@@ -23,7 +23,7 @@ pub enum Terminal<'m> {
     Symbol(&'m str),
 }
 
-// What asks for a terminal is in line: at each call it is a literal, for which little is left.
+// Tests for a terminal are in line: at each call it is a literal, for which little is left.
 
 /// Whether the two are one symbol.
 // Most symbols have one byte, which is compared alone.
@@ -90,7 +90,7 @@ pub fn expect<'a, 'b>(
     }
 }
 
-/// The tokens after this terminal, where they begin with it.
+/// The tokens after this terminal, if they begin with it.
 #[inline(always)]
 pub fn accept<'a, 'b>(tokens: &'b [Token<'a>], want: Terminal<'_>) -> Option<&'b [Token<'a>]>
     ensures there { is_some result ≡ begins (terminal want.entry) (lexemes tokens.now) }
@@ -104,11 +104,11 @@ pub fn accept<'a, 'b>(tokens: &'b [Token<'a>], want: Terminal<'_>) -> Option<&'b
     }
 }
 
-/// The tokens after this terminal, or all of them where they do not begin with it.
+/// The tokens after this terminal, or all of them if they do not begin with it.
 #[inline(always)]
 pub fn skip_optional<'a, 'b>(tokens: &'b [Token<'a>], want: Terminal<'_>) -> &'b [Token<'a>]
     ensures value { lexemes result.now
-        ≡ behind_optional (terminal want.entry) (lexemes tokens.now) }
+        ≡ after_optional (terminal want.entry) (lexemes tokens.now) }
     ensures rest { length result.now ≤ length tokens.now }
 {
     match tokens {

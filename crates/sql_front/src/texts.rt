@@ -7,7 +7,7 @@ ghost use Rattle.sql_front.specs.LiteralValues.{text_value, unquoted};
 use period_core::{Memory, Text};
 use std::alloc::Global;
 
-/// What comes before the next quote, and what comes after it where it is doubled.
+/// The text before the next quote, and the text after it if the quote is doubled.
 fn part(rest: &str) -> (&str, Option<&str>)
     ensures value { unquoted rest.now ≡ result.0.now ++ continued result.1 }
     ensures shorter { IfSome result.1 (λ more. length more.now < length rest.now) }

@@ -7,24 +7,27 @@ use Rattle.std.proofs.Math.Seq.{take-length}
 use Rattle.std.proofs.lemmas.Bool.{ne_eqb, cases_lt, eqb-true, and_parts}
 use Rattle.sql_statements.specs.Lexis.{quoted_size, longer, begins_with}
 
--- what stands at a place
+-- the byte at a place
 front : (bytes : List ℕ) (i : ℕ) → i < length bytes → drop i bytes ≡ get_or bytes i 0 ∷ drop (i + 1) bytes
 front bytes i h = rw (add-one, drop-cons bytes i 0) refl
 
 -- ---- the first bytes that meet a test
 
+-- a byte that passes is one more of the prefix
 pub prefix_on : (p : ℕ → Bool) (bytes : List ℕ) (i total : ℕ) → i < length bytes → true ≡ p (get_or bytes i 0)
     → total ≡ i + prefix_len p (drop i bytes) → total ≡ (i + 1) + prefix_len p (drop (i + 1) bytes)
 prefix_on p bytes i total h yet so_far =
     let one : prefix_len p (drop i bytes) ≡ 1 + prefix_len p (drop (i + 1) bytes) = rw (front bytes i h, ← yet) refl in
     omega (arith, so_far, one)
 
+-- a byte that fails ends the prefix
 pub prefix_stops : (p : ℕ → Bool) (bytes : List ℕ) (i total : ℕ) → i < length bytes → false ≡ p (get_or bytes i 0)
     → total ≡ i + prefix_len p (drop i bytes) → i ≡ total
 prefix_stops p bytes i total h ended so_far =
     let one : prefix_len p (drop i bytes) ≡ 0 = rw (front bytes i h, ← ended) refl in
     omega (arith, so_far, one)
 
+-- the end of the bytes ends the prefix
 pub prefix_ends : (p : ℕ → Bool) (bytes : List ℕ) (i total : ℕ) → length bytes ≤ i → i ≤ length bytes
     → total ≡ i + prefix_len p (drop i bytes) → length bytes ≡ total
 prefix_ends p bytes i total h le so_far =

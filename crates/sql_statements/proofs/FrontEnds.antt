@@ -1,4 +1,4 @@
--- What comes first in a text is not empty, and ends between characters.
+-- The first lexeme of a text is not empty, and ends between characters.
 use Rattle.std.proofs.Common.{◌≡◌, ℕ, suc, ◌+◌, ◌-◌, ◌≤◌, ◌<◌, Bool, true, false, cond, ◌==◌, List, [], ◌∷◌, length, get_or, Option, Some, None, refl, ap, subst, ◌∙◌, arith, inl, inr, ◌⊎◌, ◌&&◌, ◌||◌}
 use Rattle.std.specs.Prelude.{nat_eq}
 use Rattle.std.specs.Str.{IsUtf8, IsCharBoundary}
@@ -49,7 +49,7 @@ symbol_below b =
 pub none_some : (n : ℕ) → None ≡ Some n → ⊥
 none_some n e = cc
 
--- ---- where a front ends
+-- ---- the end of a front
 
 after_ascii : (bytes : List ℕ) (n : ℕ) → IsUtf8 bytes → n < length bytes → get_or bytes n 0 < 128 → (0 < 1 + n) × IsCharBoundary bytes (1 + n)
 after_ascii bytes n utf8 h low =
@@ -153,6 +153,7 @@ comment_ends b bytes utf8 =
           (omega arith, subst (IsCharBoundary (b ∷ bytes)) e (IsCharBoundary-end (b ∷ bytes)))
     ]
 
+-- the first lexeme of a text is not empty, and ends between two characters
 pub front_ends : (bytes : List ℕ) → IsUtf8 bytes → EndsBetween (first_lexeme bytes) bytes
 unfolding first_lexeme
 front_ends [] utf8 = tt

@@ -1,4 +1,4 @@
--- A word in upper case is a name where the word is not reserved.
+-- A word in upper case is a name if the word is not reserved.
 use Rattle.std.proofs.Common.{◌≡◌, ℕ, Bool, true, false, not, List, [], ◌∷◌, refl, sym, ap, rules, ◌∙◌, ◌&&◌, ◌==◌}
 use Rattle.std.specs.Char.{to_ascii_uppercase, to_ascii_lowercase}
 use Rattle.std.specs.List.{list_all}

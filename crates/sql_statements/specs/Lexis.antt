@@ -28,13 +28,13 @@ line_feed = 10
 abbrev pub quote : ℕ
 quote = 39
 
--- the byte is one of these
+-- the byte is among the bytes
 abbrev pub is_one_of : List ℕ → ℕ → Bool
 is_one_of [] b = false
 is_one_of (c ∷ []) b = b == c
 is_one_of (c ∷ d ∷ rest) b = b == c || is_one_of (d ∷ rest) b
 
--- the byte is one of these ASCII characters
+-- the byte is among the ASCII characters
 infix 60 ◌∈◌
 abbrev pub ◌∈◌ : ℕ → String → Bool
 b ∈ characters = is_one_of (codes characters) b
@@ -55,7 +55,7 @@ is_letter b = is_ascii_alphabetic b || b ∈ "_"
 abbrev pub is_digit : ℕ → Bool
 is_digit b = is_ascii_digit b
 
--- what a word may have after its first letter
+-- a byte that a word may have after its first letter
 abbrev pub is_word_byte : ℕ → Bool
 is_word_byte b = is_letter b || is_digit b
 
@@ -67,19 +67,19 @@ is_symbol_byte b = b ∈ "(),;.*=<>+-"
 abbrev pub is_lone_symbol : ℕ → Bool
 is_lone_symbol b = b ∈ "(),;.*=+"
 
--- a symbol of two bytes comes first
+-- a symbol of two bytes is first
 abbrev pub begins_pair : List ℕ → Bool
 begins_pair bytes = begins_with "<>" bytes || begins_with "<=" bytes || begins_with ">=" bytes
 
--- ---- what comes first
+-- ---- the first lexeme
 
--- a size, where there is one, and n more
+-- a size, if there is one, and n more
 abbrev pub longer : ℕ → Option ℕ → Option ℕ
 longer n None = None
 longer n (Some m) = Some (n + m)
 
 -- after an opening quote: characters other than quotes, pairs of quotes, and then the quote that
--- ends the text, which no quote follows; how many bytes these take, where the text ends
+-- ends the text, which no quote follows; how many bytes these take, if the text ends
 unfoldable pub quoted_size : List ℕ → Option ℕ
 quoted_size [] = None
 quoted_size (b ∷ []) = if b == quote then Some 1 else None
@@ -87,12 +87,12 @@ quoted_size (b ∷ c ∷ rest) =
     if b == quote then (if c == quote then longer 2 (quoted_size rest) else Some 1)
     else longer 1 (quoted_size (c ∷ rest))
 
--- a text of this size, where there is one
+-- a text of this size, if there is one
 abbrev pub text_of_size : Option ℕ → Front
 text_of_size None = front.Bad
 text_of_size (Some n) = front.Lexeme Text n
 
--- what comes first, and how many bytes it takes
+-- the first lexeme, and the number of its bytes
 unfoldable pub first_lexeme : List ℕ → Front
 first_lexeme [] = front.Bad
 first_lexeme (b ∷ rest) =
@@ -105,7 +105,7 @@ first_lexeme (b ∷ rest) =
     else if is_symbol_byte b then front.Lexeme Symbol 1
     else front.Bad
 
--- what comes first is not empty, and ends between characters
+-- the first lexeme is not empty, and ends between characters
 abbrev pub EndsBetween : Front → List ℕ → Type 0
 EndsBetween (front.Blank n) bytes = (0 < n) × IsCharBoundary bytes n
 EndsBetween (front.Lexeme kind n) bytes = (0 < n) × IsCharBoundary bytes n
@@ -153,7 +153,7 @@ abbrev pub StopsAt : List ℕ → ℕ → Type 0
 StopsAt script bad =
     StopsFrom (byte_order_mark_size script) (drop (byte_order_mark_size script) script) bad
 
--- a token comes first at its place, and is the slice of the script at its span
+-- a token is first at its place, and is the slice of the script at its span
 pub record IsTokenAt (script : List ℕ) (token : Lexeme) : Type 0 where
   pub first : first_lexeme (drop token.start script)
       ≡ front.Lexeme token.kind (token.end - token.start)

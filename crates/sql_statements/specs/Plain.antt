@@ -92,7 +92,7 @@ plain_stored s = record {
   condition = option_map plain_condition s.condition;
 }
 
--- what a statement says
+-- the plain tree of a statement
 abbrev pub plain_form : forms.StatementForm → Statement
 plain_form (variant.At moment) = at moment
 plain_form (variant.Create table) = create table

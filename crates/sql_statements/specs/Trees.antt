@@ -26,7 +26,7 @@ mutual
     none : Conditions T
     more : Condition T → Conditions T → Conditions T
 
--- these conditions, in their order
+-- conditions in their order
 abbrev pub conditions_of : {T : Type 0} → List (Condition T) → Conditions T
 conditions_of [] = none
 conditions_of (c ∷ cs) = more c (conditions_of cs)

@@ -9,7 +9,7 @@ use crate::nonempty::NonEmpty;
 use period_core::Items;
 use std::marker::Model;
 
-/// A column's type. A number is that of its token, not yet checked.
+/// A column's type. A number is as its token says, not yet checked.
 #[derive(Clone, Copy)]
 pub enum TypeName {
     Integer,

@@ -1,4 +1,4 @@
-//! What comes first in a text.
+//! The first lexeme of a text.
 
 ghost use Rattle.std.specs.Prelude.{◌≡◌, ◌<◌, length};
 ghost use Rattle.sql_statements.specs.Lexis as lexis;
@@ -10,7 +10,7 @@ use crate::scan::{
 };
 use crate::token::TokenKind;
 
-/// What comes first, and how many bytes it takes.
+/// The first lexeme, and the number of its bytes.
 #[derive(Clone, Copy)]
 pub enum Front {
     /// White space or a comment.
@@ -57,7 +57,7 @@ fn first_of_bytes(bytes: &[u8]) -> Front
     }
 }
 
-/// The first case that fits: what comes first in a text, and how many bytes it takes.
+/// The first case that fits: what is first in a text, and how many bytes it takes.
 pub fn first_lexeme(text: &str) -> Front
     requires { length text.now < text_limit }
     ensures value { result ≡ lexis.first_lexeme text.now }

@@ -43,7 +43,7 @@ impl Name {
         })
     }
 
-    /// The name that a text is: `None` exactly where it is no word, a reserved one, or not in upper
+    /// The name that a text is: `None` exactly if it is no word, a reserved one, or not in upper
     /// case.
     #[tactic(auto, unfolding(crate::specs::Names::is_name))]
     pub fn from_text(text: Text) -> Option<Name>

@@ -40,7 +40,7 @@ impl<T> NonEmpty<T> {
         self.items.as_slice()
     }
 
-    /// How many there are.
+    /// The number of elements.
     pub fn len(&self) -> usize
         ensures { result ≡ length self.now }
     {

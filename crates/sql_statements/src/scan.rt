@@ -1,4 +1,4 @@
-//! How many bytes of a text one thing takes.
+//! Sizes, in bytes, of the things of a text.
 
 ghost use Rattle.std.specs.Prelude.{◌≡◌, ◌≤◌, length, IfSome};
 ghost use Rattle.std.specs.List.{prefix_len};
@@ -55,14 +55,14 @@ pub(crate) fn is_symbol_byte(byte: u8) -> bool
     is_lone_symbol(byte) || byte == b'<' || byte == b'>' || byte == b'-'
 }
 
-/// Whether a symbol of two bytes comes first.
+/// Whether a symbol of two bytes is first.
 pub(crate) fn begins_pair(bytes: &[u8]) -> bool
     ensures { result ≡ lexis.begins_pair bytes.now }
 {
     bytes.starts_with(b"<>") || bytes.starts_with(b"<=") || bytes.starts_with(b">=")
 }
 
-/// How many bytes of a word come first.
+/// The number of bytes of the word that is first.
 pub(crate) fn word_size(bytes: &[u8]) -> usize
     ensures size { result ≡ prefix_len lexis.is_word_byte bytes.now }
     ensures within { result ≤ length bytes.now }
@@ -75,7 +75,7 @@ pub(crate) fn word_size(bytes: &[u8]) -> usize
     bytes.len()
 }
 
-/// How many digits come first.
+/// The number of digits that come first.
 pub(crate) fn number_size(bytes: &[u8]) -> usize
     ensures size { result ≡ prefix_len lexis.is_digit bytes.now }
     ensures within { result ≤ length bytes.now }
@@ -88,7 +88,7 @@ pub(crate) fn number_size(bytes: &[u8]) -> usize
     bytes.len()
 }
 
-/// How many bytes there are up to and with the next line feed, or to the end.
+/// The number of bytes up to and with the next line feed, or to the end.
 pub(crate) fn comment_size(bytes: &[u8]) -> usize
     ensures size { result ≡ length (take_through line_feed bytes.now) }
     ensures within { result ≤ length bytes.now }
@@ -107,7 +107,7 @@ fn begins_quote(bytes: &[u8]) -> bool
     bytes.starts_with(b"'")
 }
 
-/// How many bytes there are after an opening quote up to and with the quote that ends the text.
+/// The number of bytes after an opening quote up to and with the quote that ends the text.
 pub(crate) fn quoted_size(bytes: &[u8]) -> Option<usize>
     ensures size { result ≡ quoted_size bytes.now }
     ensures within { IfSome result (λ n. n ≤ length bytes.now) }
@@ -125,7 +125,7 @@ pub(crate) fn quoted_size(bytes: &[u8]) -> Option<usize>
     None
 }
 
-/// How many bytes a byte order mark, U+FEFF, takes at the start of a script.
+/// The number of bytes of a byte order mark, U+FEFF, at the start of a script; 0 if there is none.
 pub fn byte_order_mark_size(script: &[u8]) -> usize
     ensures { result ≡ lexis.byte_order_mark_size script.now }
 {

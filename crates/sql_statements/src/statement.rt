@@ -18,7 +18,7 @@ pub struct ColumnReference {
     pub name: Name,
 }
 
-/// How two values are compared.
+/// A comparison of two values.
 #[derive(Clone, Copy, Debug)]
 pub enum Comparison {
     Equal,
@@ -165,7 +165,7 @@ pub struct StoredQuery {
     pub condition: Option<Tree<StoredTest>>,
 }
 
-/// What a statement says.
+/// A statement, by its form.
 #[derive(Drop)]
 pub enum StatementForm {
     /// AT: the moment of the statements that follow.
@@ -193,7 +193,7 @@ impl Statement {
         Statement { form }
     }
 
-    /// What it says.
+    /// The statement by its form.
     pub fn form(&self) -> &StatementForm
         ensures { plain_form result.now ≡ plain self.now }
     {

@@ -4,15 +4,15 @@
 /// A condition over tests.
 #[derive(Drop)]
 pub enum Tree<T> {
-    /// A chain of OR: its first part, and the others in their order.
+    /// A chain of OR: its first part, and the rest in their order.
     Or(Box<Tree<T>>, Vec<Tree<T>>),
-    /// A chain of AND: its first part, and the others in their order.
+    /// A chain of AND: its first part, and the rest in their order.
     And(Box<Tree<T>>, Vec<Tree<T>>),
     Not(Box<Tree<T>>),
     Test(T),
 }
 
-/// What a set operator does with the rows of its two sides. Each gives a row once.
+/// An operator on the rows of two queries. Each gives a row once.
 #[derive(Clone, Copy)]
 pub enum SetOperator {
     /// The rows of either side.

@@ -49,7 +49,7 @@ pub fn is_same_word(text: &str, want: &str) -> bool
     text.len() == want.len() && text.eq_ignore_ascii_case(want)
 }
 
-/// Whether it is one of these words.
+/// Whether it is among the words.
 fn is_among(text: &str, words: &[&str]) -> bool
     ensures { result ≡ list_any (λ word. bytes_eq (folded text.now) (folded word.now)) words.now }
 {

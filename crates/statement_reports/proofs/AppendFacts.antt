@@ -1,4 +1,4 @@
--- What calls append, one after the other.
+-- Calls that append, one after the other.
 use Rattle.std.proofs.Common.{◌≡◌, ◌⊎◌, ◌+◌, ◌<◌, ◌≤◌, ◌∷◌, ◌++◌, ◌∙◌, ℕ, List, [], Option, Result, Ok, inl, inr, length, map, flat_map, get_or, take, refl, ap, sym, subst, arith, append_assoc}
 use Rattle.std.specs.Io.KnownBytes.{Appends}
 use Rattle.std.specs.List.{zip}

@@ -9,7 +9,7 @@ use Rattle.statement_reports.specs.declared.outcome.Outcome.TheVariants as outco
 use Rattle.statement_reports.specs.AuditedReport.{audit_text, audited_report}
 use Rattle.statement_reports.specs.Report.{line_feed, more_fields, printed_day, record_text}
 
--- an answer's audit is behind its records
+-- an answer's audit is after its records
 empty_answer : Entry
 empty_answer = record {
   result = Ok (outcome.Answer record { columns = codes "ENO" ∷ []; rows = []; witnesses = [] });

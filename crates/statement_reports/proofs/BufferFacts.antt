@@ -1,4 +1,4 @@
--- What a writer has, and then the texts that a buffer keeps.
+-- A writer and a buffer before it: the writer's bytes, and then the texts that the buffer keeps.
 use Rattle.std.proofs.Common.{◌++◌, ◌∙◌, ℕ, List, [], Option, Some, None, Result, Ok, Err, refl, sym, append_assoc}
 use Rattle.std.specs.Prelude.{OnOk}
 use Rattle.std.specs.Io.KnownBytes.{Appends, append_known}
@@ -19,7 +19,7 @@ all-written (Some xs) None new texts whole before last = absurd before
 all-written (Some xs) (Some ys) None texts whole before last = absurd last
 all-written (Some xs) (Some ys) (Some zs) texts whole before last = last ∙ before
 
--- the texts that are left are written, where the writer takes them
+-- the texts that are left are written, if the writer takes them
 pub kept-end : {T E : Type 0} (ended : Result T E) (old mid new : Option (List ℕ)) (texts whole : List ℕ) → Appends old (append_known mid texts) whole → OnOk ended (Appends mid new texts) → OnOk ended (Appends old new whole)
 kept-end (Ok x) old mid new texts whole before last = all-written old mid new texts whole before last
 kept-end (Err e) old mid new texts whole before last = tt

@@ -16,7 +16,7 @@ verdict_fields (Agrees days) = codes "agrees" ∷ decimal days ∷ []
 verdict_fields (Differs day) = codes "differs" ∷ printed_day day ∷ []
 verdict_fields (BadWitness row) = codes "badwitness" ∷ decimal row ∷ []
 
--- what an audit gives: its verdict, or the number of its refusal
+-- the fields of an audit: its verdict, or the number of its refusal
 abbrev pub audit_fields : Result Verdict Refusal → List (List ℕ)
 audit_fields (Ok verdict) = verdict_fields verdict
 audit_fields (Err refusal) = codes "refused" ∷ decimal (code_of refusal) ∷ []
@@ -25,12 +25,12 @@ audit_fields (Err refusal) = codes "refused" ∷ decimal (code_of refusal) ∷ [
 abbrev pub audit_record : ℕ → Result Verdict Refusal → List (List ℕ)
 audit_record n audit = (codes "audit" ∷ decimal n ∷ []) ++ audit_fields audit
 
--- its text, where there is one
+-- the record of an audit, if there is one
 abbrev pub audit_text : ℕ → Option (Result Verdict Refusal) → List ℕ
 audit_text n None = []
 audit_text n (Some audit) = record_text (audit_record n audit)
 
--- the records of the n-th entry: those of its result, and then that of its audit
+-- the records of the n-th entry: its result's, and then its audit's
 abbrev pub entry_text : ℕ → Entry → List ℕ
 entry_text n entry = text_of n entry.result ++ audit_text n entry.audit
 

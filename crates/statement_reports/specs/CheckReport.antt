@@ -5,7 +5,7 @@ use Rattle.std.specs.Fmt.{decimal}
 use Rattle.period_core.specs.declared.refusal.Refusal.{Refusal}
 use Rattle.statement_reports.specs.Report.{record_text, refused_record}
 
--- the record of the n-th statement, where it is refused
+-- the record of the n-th statement, if it is refused
 abbrev pub refusal_text : ℕ → Result (Unit {0}) Refusal → List ℕ
 refusal_text n (Ok nothing) = []
 refusal_text n (Err refusal) = record_text (refused_record n refusal)
@@ -15,7 +15,7 @@ abbrev pub refusals_from : ℕ → List (Result (Unit {0}) Refusal) → List ℕ
 refusals_from n [] = []
 refusals_from n (result ∷ results) = refusal_text n result ++ refusals_from (n + 1) results
 
--- how many statements there are, and how many of them are refused
+-- the number of statements, and of those that are refused
 abbrev pub checked_record : List (Result (Unit {0}) Refusal) → List (List ℕ)
 checked_record results =
     codes "checked" ∷ decimal (length results) ∷ decimal (count_by is_err results) ∷ []

@@ -52,7 +52,7 @@ unfoldable pub doubled : List ℕ → List ℕ
 doubled [] = []
 doubled (b ∷ rest) = if b == quote_mark then quote_mark ∷ b ∷ doubled rest else b ∷ doubled rest
 
--- a field, between quotes only where one of its bytes calls for them
+-- a field, between quotes only if one of its bytes calls for them
 abbrev pub field_text : List ℕ → List ℕ
 field_text field =
     if list_any calls_for_quotes field then quote_mark ∷ (doubled field ++ quote_mark ∷ [])
@@ -68,7 +68,7 @@ unfoldable pub record_text : List (List ℕ) → List ℕ
 record_text [] = line_feed ∷ []
 record_text (field ∷ rest) = field_text field ++ (more_fields rest ++ line_feed ∷ [])
 
--- what was done
+-- the word of an accepted statement that is no query
 abbrev pub word_text : Word → List ℕ
 word_text At = codes "at"
 word_text Create = codes "create"
@@ -80,11 +80,11 @@ word_text Delete = codes "delete"
 unfoldable pub printed_day : ℤ → List ℕ
 printed_day day = day_text day
 
--- a moment as YYYY-MM-DD HH:MM:SS, followed by a point and six digits where it has a fraction
+-- a moment as YYYY-MM-DD HH:MM:SS, followed by a point and six digits if it has a fraction
 unfoldable pub printed_moment : ℤ → List ℕ
 printed_moment moment = moment_text moment
 
--- an integer in decimal with `-` where it is negative, a text as it is
+-- an integer in decimal with `-` if it is negative, a text as it is
 abbrev pub value_text : Value → List ℕ
 value_text (Int n) = signed_decimal n
 value_text (Text bytes) = bytes
@@ -95,7 +95,7 @@ abbrev pub absent_text : Option ℤ → List ℕ
 absent_text None = codes "none"
 absent_text (Some day) = printed_day day
 
--- the value at a position; nothing where there is none, as in no version of its table
+-- the value at a position; nothing if there is none, as in no version of its table
 abbrev pub value_cell : Option Value → List ℕ
 value_cell None = []
 value_cell (Some value) = value_text value
@@ -124,7 +124,7 @@ refused_record n refusal =
     codes "refused" ∷ decimal n
     ∷ decimal (code_of refusal) ∷ name_of refusal ∷ detail_of refusal ∷ []
 
--- how many value columns there are, and how many rows
+-- the number of value columns, and of rows
 abbrev pub answer_record : ℕ → Answer → List (List ℕ)
 answer_record n answer =
     codes "answer" ∷ decimal n
@@ -147,7 +147,7 @@ row_fields (row, witness) =
 abbrev pub row_record : ℕ → PeriodRow × Witness → List (List ℕ)
 row_record n row = codes "row" ∷ decimal n ∷ row_fields row
 
--- how many columns the table has, and how many versions are shown
+-- the number of the table's columns, and of the versions that are shown
 abbrev pub versions_record : ℕ → VersionList → List (List ℕ)
 versions_record n list =
     codes "versions" ∷ decimal n
@@ -176,7 +176,7 @@ records_of n (Ok (outcome.Versions list)) =
     ∷ map (version_record n list.columns) list.rows
 records_of n (Err refusal) = refused_record n refusal ∷ []
 
--- the texts of these records, one after the other
+-- the texts of the records, one after the other
 abbrev pub text_of : ℕ → Result Outcome Refusal → List ℕ
 text_of n result = flat_map record_text (records_of n result)
 

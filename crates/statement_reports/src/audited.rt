@@ -58,7 +58,7 @@ fn fill_audit(
     }
 }
 
-// The record of an audit, where there is one.
+// The record of an audit, if there is one.
 fn write_audit<W: ReportWriter>(
     alloc: Global,
     line: &mut Record,

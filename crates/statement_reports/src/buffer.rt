@@ -14,13 +14,13 @@ use std::alloc::Global;
 use std::marker::Model;
 use std::mem;
 
-/// How many bytes are gathered before the writer gets them.
+/// The number of bytes that are gathered before the writer gets them.
 const CAPACITY: usize = 65_536;
 
 /// The texts that the writer has not got yet, which contracts see as their bytes.
 #[derive(Drop)]
 pub(crate) struct ReportBuffer {
-    // It keeps some KiB to itself before the vector gets them.
+    // The csv writer, which keeps some KiB to itself before the vector gets them.
     texts: Writer<Vec<u8>>,
 }
 
@@ -100,7 +100,7 @@ impl ReportBuffer {
         written
     }
 
-    /// Adds the text of a record, and writes the texts out where there are enough of them.
+    /// Adds the text of a record, and writes the texts out if there are enough of them.
     pub(crate) fn write<W: ReportWriter>(
         &mut self,
         alloc: Global,

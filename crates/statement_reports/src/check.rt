@@ -46,7 +46,7 @@ fn refused_count(results: &[Result<(), Refusal>]) -> u64
     count
 }
 
-// How many statements there are, and how many are refused.
+// Fills in the number of statements, and of those that are refused.
 fn fill_counts(line: &mut Record, results: &[Result<(), Refusal>]) -> Result<(), ReportFault>
     ensures ok { OnOk result (line.new ≡ checked_record results.now) }
     ensures err { IfErr result (λ e. e ≡ ReportFault.Memory) }

@@ -1,4 +1,4 @@
-//! What a statement of an audited run gives.
+//! The entry of a statement of an audited run.
 
 ghost use Rattle.std.specs.Prelude.{◌≡◌, None};
 
@@ -10,8 +10,8 @@ use snapshot_audit::Verdict;
 #[derive(Drop, Debug)]
 pub struct Entry {
     pub result: Result<Outcome, Refusal>,
-    /// What the audit says of the answer, or the refusal of the audit, which is out of memory.
-    /// Nothing where the result is no answer.
+    /// The verdict of the audit, or its refusal, which is out of memory. None if the result is no
+    /// answer.
     pub audit: Option<Result<Verdict, Refusal>>,
 }
 

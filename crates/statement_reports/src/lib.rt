@@ -1,4 +1,4 @@
-//! What statements give, and the reports of it: a record of comma-separated fields for each thing
+//! The results of statements, and their reports: a record of comma-separated fields for each thing
 //! that is reported. To add a kind of outcome, touch `outcome.rt`, its record in `report.rt` and in
 //! `specs/Report`; to add a cell of a list of versions, `Cell`, its text in `record.rt` and in
 //! `specs/Report`.

@@ -1,11 +1,11 @@
-//! What a statement gives.
+//! The outcome of a statement.
 
 ghost use Rattle.std.specs.Prelude.{◌≡◌};
 ghost use Rattle.statement_reports.specs.Report.{word_text};
 
 use period_core::{Answer, Items, Text, VersionRow};
 
-/// What was done.
+/// The kind of an accepted statement that is no query.
 #[derive(Clone, Copy, Debug, PartialEq, Eq)]
 pub enum Word {
     /// The clock was moved.
@@ -35,7 +35,7 @@ impl Word {
     }
 }
 
-/// Where the cell of a column comes from in a version.
+/// The part of a version that the cell of a column shows.
 #[derive(Clone, Copy, Debug, PartialEq, Eq)]
 pub enum Cell {
     /// The value at this position among the version's values, from 0.
@@ -46,7 +46,7 @@ pub enum Cell {
     End,
     /// The first moment of its system time.
     From,
-    /// The moment at which its system time ends: FOREVER where the version is current.
+    /// The moment at which its system time ends: FOREVER if the version is current.
     To,
 }
 
@@ -65,11 +65,11 @@ pub struct VersionList {
     pub rows: Items<VersionRow>,
 }
 
-/// What an accepted statement gives.
+/// The outcome of an accepted statement.
 #[derive(Drop, Debug)]
 pub enum Outcome {
-    /// What was done, with a number of rows: of an INSERT those that were given, of an UPDATE or a
-    /// DELETE the current versions that it touched, else 0.
+    /// The word of a statement that is no query, with a number of rows: of an INSERT those that
+    /// were given, of an UPDATE or a DELETE the current versions that it touched, else 0.
     Done(Word, u64),
     /// The answer of a sequenced query.
     Answer(Answer),

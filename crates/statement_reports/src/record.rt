@@ -78,7 +78,7 @@ impl Record {
         self.push(Buffer::new().format(number).as_bytes())
     }
 
-    /// Adds an integer in decimal, with `-` where it is negative.
+    /// Adds an integer in decimal, with `-` if it is negative.
     fn push_integer(&mut self, integer: i64) -> Result<(), ReportFault>
         ensures ok { OnOk result (self.new ≡ self.old ++ signed_decimal integer ∷ []) }
         ensures err { IfErr result (λ e. e ≡ ReportFault.Memory) }
@@ -96,7 +96,7 @@ impl Record {
         self.push(&text)
     }
 
-    /// Adds a moment as YYYY-MM-DD HH:MM:SS, followed by a point and six digits where it has a
+    /// Adds a moment as YYYY-MM-DD HH:MM:SS, followed by a point and six digits if it has a
     /// fraction.
     fn push_moment(&mut self, moment: Moment) -> Result<(), ReportFault>
         ensures ok { OnOk result (self.new ≡ self.old ++ printed_moment moment ∷ []) }
@@ -107,7 +107,7 @@ impl Record {
         self.push(&text[..length])
     }
 
-    /// Adds a day, or `none` where there is none.
+    /// Adds a day, or `none` if there is none.
     pub(crate) fn push_absent(&mut self, day: Option<Day>) -> Result<(), ReportFault>
         ensures ok { OnOk result (self.new ≡ self.old ++ absent_text day ∷ []) }
         ensures err { IfErr result (λ e. e ≡ ReportFault.Memory) }
@@ -152,7 +152,7 @@ impl Record {
         Ok(())
     }
 
-    /// Adds the value at a position, or nothing where there is none.
+    /// Adds the value at a position, or nothing if there is none.
     fn push_value_at(&mut self, values: &[Value], position: usize) -> Result<(), ReportFault>
         ensures ok { OnOk result
             (self.new ≡ self.old ++ value_cell (slice_get values.now position) ∷ []) }

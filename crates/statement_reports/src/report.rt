@@ -43,7 +43,7 @@ pub(crate) fn fill_refused(
     }
 }
 
-// How many value columns and rows follow.
+// Fills in the number of value columns and of rows that follow.
 fn fill_head(line: &mut Record, number: u64, answer: &Answer) -> Result<(), ReportFault>
     ensures ok { OnOk result (line.new ≡ answer_record number answer.now) }
     ensures err { IfErr result (λ e. e ≡ ReportFault.Memory) }
@@ -110,7 +110,7 @@ fn write_answer<W: ReportWriter>(
     Ok(())
 }
 
-// How many columns and versions follow.
+// Fills in the number of columns and of versions that follow.
 fn fill_versions_head(line: &mut Record, number: u64, list: &VersionList) -> Result<(), ReportFault>
     ensures ok { OnOk result (line.new ≡ versions_record number list.now) }
     ensures err { IfErr result (λ e. e ≡ ReportFault.Memory) }

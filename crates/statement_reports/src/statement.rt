@@ -34,7 +34,7 @@ pub fn write_statement<W: ReportWriter>(
     buffer.finish(out)
 }
 
-/// The same in an audited report: after the records of an answer that of its audit.
+/// Writes the result of a statement in an audited report: after an answer the verdict of its audit.
 pub fn write_audited_statement<W: ReportWriter>(
     alloc: Global,
     out: &mut W,

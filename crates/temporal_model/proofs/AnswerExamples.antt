@@ -44,14 +44,14 @@ alone-witnessed = record {
   absent = λ h. Contains-nil middle.values h;
 }
 
--- where a row with its values ends as it begins, they are held on day 4 too
+-- if a row with its values ends as it begins, the values are held on day 4 too
 met-no_witness : (witness : Witness) → IsWitness (InSnapshot (early ∷ middle ∷ [])) middle witness → ⊥
 met-no_witness witness shown =
     shown.absent (Contains-here early.values [])
 
 -- ---- the order of an answer
 
--- values come before days: 7 from day 5 comes before 9 from day 1
+-- values come before days: 7 from day 5 precedes 9 from day 1
 values-before_days : IsInAnswerOrder (middle ∷ nine ∷ [])
 values-before_days zero zero d lt below = absurd (omega arith)
 values-before_days zero (suc zero) d lt below = refl
@@ -59,6 +59,6 @@ values-before_days zero (suc (suc j)) d lt below = absurd (omega arith)
 values-before_days (suc i) zero d lt below = absurd (omega arith)
 values-before_days (suc i) (suc j) d lt below = absurd (omega arith)
 
--- the same two rows the other way round
+-- the two rows the other way round
 other_way_round-not_in_order : IsInAnswerOrder (late ∷ middle ∷ []) → ⊥
 other_way_round-not_in_order up = let before : Greater ≡ Less = up 0 1 late (omega arith) (omega arith) in cc

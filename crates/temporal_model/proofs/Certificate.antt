@@ -31,6 +31,7 @@ begins_in rows others certified same row c =
       ),
     )
 
+-- a certified list is a shortest one
 pub shortest : (rows : List PeriodRow) → IsCertified rows → IsShortest rows
 shortest rows certified others same =
     pigeonhole SameBeginning rows others (begins_in rows others certified same)

@@ -1,4 +1,4 @@
--- Snapshots day by day: which days matter, and where nothing changes.
+-- Snapshots day by day: which days matter, and between which nothing changes.
 use Rattle.std.proofs.Common.{◌≤ℤ◌, ◌<ℤ◌, ℤ, List, arith}
 use Rattle.std.proofs.lemmas.Int.{ints, by_lt_z}
 use Rattle.period_core.specs.declared.value.Value.{Value}
@@ -22,6 +22,7 @@ agreement_on_days xs ys same day values = (
   λ h. (same day values (InSnapshot-IsDay ys day values h)).1 h,
 )
 
+-- snapshots stay the same from one day to another if no row begins or ends between them
 pub constant_between : ConstantBetweenChanges
 constant_between rows first second order none values = (
   λ h.

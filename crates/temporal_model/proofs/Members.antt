@@ -4,26 +4,32 @@ use Rattle.std.specs.List.{Contains, AllPairs, AllZip, remove}
 use Rattle.std.specs.List.Sorted.{IsPermutation}
 use Rattle.std.proofs.lemmas.List.Sorted.{IsPermutation-remove, IsPermutation-cons, IsPermutation-trans, IsPermutation-refl, Contains-permutation, length_permutation}
 
+-- a list contains its first element
 pub Contains-here : {X : Type 0} (x : X) (xs : List X) → Contains (x ∷ xs) x
 Contains-here x xs = (0, omega arith, refl)
 
+-- a list contains what its rest contains
 pub Contains-there : {X : Type 0} (x : X) (xs : List X) (y : X) → Contains xs y → Contains (x ∷ xs) y
 Contains-there x xs y (k, h, e) = (suc k, omega arith, e)
 
+-- an empty list contains nothing
 pub Contains-nil : {X : Type 0} (y : X) → Contains [] y → ⊥
 Contains-nil y (k, h, e) = omega arith
 
+-- a member of a list is its first element or a member of its rest
 pub Contains-cons_cases :
     {X : Type 0} (x : X) (xs : List X) (y : X) → Contains (x ∷ xs) y → (x ≡ y) ⊎ Contains xs y
 Contains-cons_cases x xs y (zero, h, e) = inl e
 Contains-cons_cases x xs y (suc k, h, e) = inr (k, omega arith, e)
 
+-- a member of a list of one element is that element
 pub Contains-one : {X : Type 0} (x y : X) → Contains (x ∷ []) y → x ≡ y
 Contains-one x y c = elim (Contains-cons_cases x [] y c) [
   | inl e ↦ e
   | inr k ↦ absurd (Contains-nil y k)
 ]
 
+-- a fact of all pairs of a list is one of all pairs of its rest
 pub AllPairs-tail :
     {X : Type 0} (R : X → X → Type 0) (x : X) (xs : List X) → AllPairs R (x ∷ xs) → AllPairs R xs
 AllPairs-tail R x xs all = λ i j d lt below. all (suc i) (suc j) d (omega arith) (omega arith)
@@ -34,7 +40,7 @@ pub AllPairs-head :
     → Contains xs y → R x y
 AllPairs-head R x xs all y (k, h, e) = subst (R x) e (all 0 (suc k) y (omega arith) (omega arith))
 
--- what is left of ys without a member
+-- ys without a member
 pub rest_of :
     {X : Type 0} (ys : List X) (y : X) → Contains ys y
     → (rest : List X) × IsPermutation ys (y ∷ rest)
@@ -63,7 +69,7 @@ pigeonhole {X} S (x ∷ xs) ys send distinct =
     let same : length (y ∷ rest) ≡ length ys = length_permutation ys (y ∷ rest) moved in
     omega arith
 
--- where ys is no longer than xs, each member of ys is an image
+-- if ys is no longer than xs, each member of ys is an image
 pub onto :
     {X : Type 0} (S : X → X → Type 0) (xs ys : List X)
     → ((x : X) → Contains xs x → (y : X) × Contains ys y × S x y) → AllPairs (NoImageShared S) xs
@@ -136,7 +142,7 @@ same_from_members {X} R strict (x ∷ xs) (y ∷ ys) up down there back =
     let tails : xs ≡ ys = same_from_members R strict xs ys (AllPairs-tail R x xs up) (AllPairs-tail R y ys down) forth again in
     cc
 
--- what a function gives for each element, in the elements' places
+-- the results of a function, in the places of the elements
 pub AllZip-map :
     {X Y : Type 0} (P : X → Y → Type 0) (f : X → Y) (xs : List X)
     → ((x : X) → Contains xs x → P x (f x)) → AllZip P xs (map f xs)

@@ -36,6 +36,7 @@ values_on-there : (row : PeriodRow) (rows : List PeriodRow) (day : ℤ) (values 
 values_on-there row rows day values true e h = rw e (Contains-there row.values (values_on rows day) values h)
 values_on-there row rows day values false e h = rw e h
 
+-- values of a row that holds on a day are in the day's snapshot
 pub in_snapshot : (rows : List PeriodRow) (day : ℤ) (values : List Value) → HoldsOn rows day values → InSnapshot rows day values
 in_snapshot [] day values (row, c, e, h) = absurd (Contains-nil row c)
 in_snapshot (first ∷ rows) day values (row, c, e, h) =
@@ -64,6 +65,7 @@ pub held : (rows : List PeriodRow) (day : ℤ) (values : List Value) → InSnaps
 held [] day values h = absurd (Contains-nil values h)
 held (first ∷ rows) day values h = held_by first rows day values (row_covers day first) refl (held rows day values) h
 
+-- the values of two lists on a day are those of the first and then those of the second
 pub values_on-append : (rows others : List PeriodRow) (day : ℤ) → values_on (rows ++ others) day ≡ values_on rows day ++ values_on others day
 values_on-append rows others day =
     ap (map (λ (row : PeriodRow). row.values)) (filter-append (row_covers day) rows others)
@@ -79,13 +81,15 @@ InSnapshot-start rows row c =
     let first : row.period.start <ℤ row.period.end = row.period.ordered in
     in_snapshot rows row.period.start row.values (row, c, refl, (omega (arith, ints), first))
 
+-- a list is equivalent to itself
 pub Equivalent-refl : (xs : List PeriodRow) → Equivalent xs xs
 Equivalent-refl xs day vs = (λ h. h, λ h. h)
 
+-- equivalence goes through a third list
 pub Equivalent-trans : (xs ys zs : List PeriodRow) → Equivalent xs ys → Equivalent ys zs → Equivalent xs zs
 Equivalent-trans xs ys zs p q day vs = (λ h. (q day vs).0 ((p day vs).0 h), λ h. (p day vs).1 ((q day vs).1 h))
 
--- what one list holds the other does, and so with more rows after both
+-- a list that another includes is included too with more rows after both
 InSnapshot-append :
     (old new rest : List PeriodRow) (day : ℤ) (vs : List Value)
     → (InSnapshot old day vs → InSnapshot new day vs) → InSnapshot (old ++ rest) day vs
@@ -97,10 +101,12 @@ InSnapshot-append old new rest day vs to h =
       | inr more ↦ Contains-append_right (values_on new day) (values_on rest day) vs more
     ])
 
+-- equivalent lists stay so with the same rows after them
 pub Equivalent-append :
     (xs ys rest : List PeriodRow) → Equivalent xs ys → Equivalent (xs ++ rest) (ys ++ rest)
 Equivalent-append xs ys rest p day vs = (InSnapshot-append xs ys rest day vs (p day vs).0, InSnapshot-append ys xs rest day vs (p day vs).1)
 
+-- lists with the same rows in another order are equivalent
 pub Equivalent-permutation : (xs ys : List PeriodRow) → IsPermutation xs ys → Equivalent xs ys
 Equivalent-permutation xs ys p day vs = (
   λ h. let (r, c, v, covers) = held xs day vs h in in_snapshot ys day vs (r, Contains-permutation xs ys r p c, v, covers),

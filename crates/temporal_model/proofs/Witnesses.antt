@@ -13,7 +13,7 @@ use Rattle.temporal_model.proofs.AnswerOrder.{answer_cmp-same}
 use Rattle.temporal_model.proofs.Members.{AllZip-map}
 use Rattle.temporal_model.proofs.Snapshots.{InSnapshot-start}
 
--- a list in order is certified where each row has a witness against daily sets that are its snapshots
+-- a list in order is certified if each row has a witness against daily sets that are its snapshots
 pub certified_by_witnesses :
     (sets : ℤ → List Value → Type 0) (rows : List PeriodRow) → IsInAnswerOrder rows
     → ((day : ℤ) (values : List Value) → InSnapshot rows day values → sets day values)

@@ -1,4 +1,4 @@
--- What the rows of a sequenced answer are: the shortest list of its snapshots, in order.
+-- The rows of a sequenced answer: the shortest list of its snapshots, in order.
 use Rattle.std.specs.Prelude.{◌≡◌, ◌≤◌, ◌-ℤ◌, pos, List, length, Contains, AllPairs, IsPermutation}
 use Rattle.std.specs.declared.cmp.Ordering.{Ordering}
 use Rattle.std.specs.declared.cmp.Ordering.TheVariants.{Less}
@@ -22,7 +22,7 @@ abbrev pub answer_cmp : PeriodRow → PeriodRow → Ordering
 answer_cmp a b =
     ordering_then (values_cmp a.values b.values) (int_cmp a.period.start b.period.start)
 
--- each row comes before all later ones
+-- each row precedes all later ones
 abbrev pub IsInAnswerOrder : List PeriodRow → Type 0
 IsInAnswerOrder = AllPairs (λ a b. answer_cmp a b ≡ Less)
 

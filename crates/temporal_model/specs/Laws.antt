@@ -48,7 +48,7 @@ AgreeOnDays xs ys =
 abbrev pub AgreementOnDaysSuffices : Type 0
 AgreementOnDaysSuffices = (xs ys : List PeriodRow) → AgreeOnDays xs ys → Equivalent xs ys
 
--- a snapshot stays the same where no row begins or ends
+-- a snapshot stays the same if no row begins or ends
 abbrev pub ConstantBetweenChanges : Type 0
 ConstantBetweenChanges =
     (rows : List PeriodRow) (first second : ℤ)

@@ -1,4 +1,4 @@
--- What a list of period rows holds on a day. A day is its number.
+-- The snapshot of a list of period rows on a day. A day is its number.
 use Rattle.std.specs.Prelude.{◌↔◌, ◌≤ℤ◌, ◌<ℤ◌, ℤ}
 use Rattle.std.specs.Prelude.{List, Contains, filter, map}
 use Rattle.period_core.specs.Calendar.{first_day, last_day}

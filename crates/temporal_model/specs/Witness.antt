@@ -1,5 +1,5 @@
--- What shows that an answer's row is needed: a day on which its values are in the set, and the day
--- before, on which they are not.
+-- The witness of an answer's row, by which it is needed: a day on which its values are in the set,
+-- and the day before, on which they are not.
 use Rattle.std.specs.Prelude.{◌≡◌, ◌-ℤ◌, ℤ, pos, List}
 use Rattle.std.specs.List.{AllZip}
 use Rattle.period_core.specs.Calendar.{day_before}

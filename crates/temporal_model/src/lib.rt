@@ -32,7 +32,7 @@ pub fn agreement_on_days_suffices()
     ensures { AgreementOnDaysSuffices }
 {}
 
-/// A snapshot stays the same where no row begins or ends.
+/// A snapshot stays the same if no row begins or ends.
 pub fn constant_between_changes()
     ensures { ConstantBetweenChanges }
 {}

@@ -29,7 +29,7 @@ january_days = record { start = pos 0; end = pos 31; ordered = omega (arith, int
 abbrev february_days : Period
 february_days = record { start = pos 31; end = pos 59; ordered = omega (arith, ints); days = (omega (arith, ints), omega (arith, ints)) }
 
--- the same as rows that a plan ends, and one that it adds
+-- January as a row that a plan ends, and a row that it adds
 abbrev old_january : VersionRow
 old_january = record { values = Int (pos 7) ∷ []; period = january_days; from = pos 5; to = forever }
 

@@ -1,4 +1,4 @@
--- That versions have days and moments, and go on having them.
+-- Versions have days and moments, and go on having them.
 use Rattle.std.proofs.Common.{◌∷◌, ℕ, ℤ, Bool, true, false, cond, List, [], arith, map}
 use Rattle.std.specs.List.{flat_map}
 use Rattle.std.specs.Ordering.{int_cmp, is_eq}

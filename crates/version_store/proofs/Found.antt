@@ -1,4 +1,4 @@
--- Version rows as the query shows them.
+-- Version rows as the query shows them: in the order of their values, each read back as itself.
 use Rattle.std.proofs.Common.{◌≡◌, ◌+◌, List, [], ◌∷◌, map, filter, get_or, Bool, true, false, cond, refl, sym, ap, subst₂, ◌∙◌, arith}
 use Rattle.std.specs.Prelude.{IsSorted}
 use Rattle.std.specs.List.{All, AllByRecursion}
@@ -17,6 +17,7 @@ use Rattle.version_tables.specs.declared.form.Form.{Form}
 use Rattle.version_store.specs.Units.{version_of}
 use Rattle.version_store.specs.Written.{written_version}
 
+-- all that a filter keeps passes its test
 pub passes : {A : Type 0} (p : A → Bool) (xs : List A) → AllByRecursion (λ x. p x ≡ true) (filter p xs)
 passes p [] = tt
 passes p (x ∷ xs) = go (p x) refl (passes p xs)

@@ -1,4 +1,4 @@
--- What rows say of definitions and versions, in one way.
+-- Rows judged as definitions and versions: each row is one of at most one thing.
 use Rattle.std.proofs.Common.{◌≡◌, ◌+◌, ◌<◌, ◌≤◌, ◌∙◌, ◌∷◌, ◌++◌, ℕ, zero, suc, ℤ, pos, List, [], Some, append_assoc, arith, get_or, length, refl, subst, subst₂, sym, ap, take, true}
 use Rattle.std.specs.Prelude.{slice_get}
 use Rattle.std.specs.List.{All, AllByRecursion}
@@ -145,7 +145,7 @@ says_by form tables clock row n b definition values (v, is, good) number bytes t
       },
     )
 
--- what a version's row says of its number, and of its bytes
+-- a version's row has its table's number, and its bytes
 pub row_number : (form : Form) (tables : List TableDef) (clock : ℤ) (row : Row) (n : ℕ) (says : IsVersionRow form tables clock row) → IsNumberAt row 0 (pos n) → n ≡ says.0.table
 row_number form tables clock row n (v, is, good) at = same_pos n v.table (same_number row (pos n) (pos v.table) at.1 (ap (λ (r : Row). column r 0) is))
 

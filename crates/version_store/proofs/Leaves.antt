@@ -1,4 +1,4 @@
--- What the steps of a plan make of a database that still has versions to leave.
+-- The steps of a plan over a database that still has versions to leave.
 use Rattle.std.proofs.Common.{◌≡◌, ℕ, ℤ, List, [], ◌∷◌, ◌++◌, map, filter, length, Bool, true, false, not, cond, ◌&&◌, ◌||◌, ◌==◌, eqb-true, refl, sym, ap, subst, subst₂, ◌∙◌, arith}
 use Rattle.std.specs.List.{All, AllByRecursion, flat_map}
 use Rattle.std.specs.List.Sorted.{IsPermutation}
@@ -42,7 +42,7 @@ and_turned false false = refl
 exchanged : {A : Type 0} (p q : A → Bool) (xs : List A) → filter p (filter q xs) ≡ filter q (filter p xs)
 exchanged p q xs = twice p q xs ∙ ap (λ t. filter t xs) (fun_ext (λ x. and_turned (q x) (p x))) ∙ sym (twice q p xs)
 
--- what passes neither of two tests
+-- the elements that pass neither of two tests
 neither : {A : Type 0} (s l more : A → Bool) → ((x : A) → more x ≡ (s x || l x)) → (xs : List A) → filter (λ x. not (l x)) (filter (λ x. not (s x)) xs) ≡ filter (λ x. not (more x)) xs
 neither s l more both xs = twice (λ x. not (l x)) (λ x. not (s x)) xs ∙ ap (λ t. filter t xs) (fun_ext (λ x. de_morgan (s x) (l x) ∙ ap not (sym (both x))))
 
@@ -70,7 +70,7 @@ module _ (table : ℕ) (moment : ℤ) (row : VersionRow) (values : All IsColumnV
   abbrev key : Version
   key = written_version (version_in table row)
 
-  -- it began at the moment, and is one more to leave
+  -- a version that began at the moment is one more to leave
   pub notes : (db : Database) (before after : List VersionKey) (c : Contents) → HasExcept db table moment before c → is_eq (int_cmp row.from moment) ≡ true
       → ((v : Version) → is_pending table moment after v ≡ (same_key key v || is_pending table moment before v)) → HasExcept db table moment after (ended_at table moment (row ∷ []) c)
   notes db before after c was began more = record {
@@ -84,7 +84,7 @@ module _ (table : ℕ) (moment : ℤ) (row : VersionRow) (values : All IsColumnV
     values = ended_held table moment (row ∷ []) c.versions was.values;
   }
 
-  -- it began earlier, and is closed
+  -- a version that began earlier is closed
   pub closes : (old new : Database) (pending : List VersionKey) (c : Contents) → HasExcept old table moment pending c → is_eq (int_cmp row.from moment) ≡ false
       → ((m : Records) → Represents old m → Represents new (ended key moment m)) → HasExcept new table moment pending (ended_at table moment (row ∷ []) c)
   closes old new pending c was began made =
@@ -243,7 +243,7 @@ pub same_row : (table : ℕ) (moment : ℤ) (row : PeriodRow) (new : NewRow) →
 same_row table moment row new values start end =
     ap (λ n. version table n new.key.start new.end moment forever) values ∙ ap (λ n. version table (encoded row.values) n new.end moment forever) start ∙ ap (λ n. version table (encoded row.values) row.period.start n moment forever) end
 
--- what moving the ends of a version does, by the parts of a row that it becomes
+-- a move of a version's end, by the parts of the row that it becomes
 pub same_moved : (old new : Database) (count n : ℕ) (bytes : List ℕ) (start from end to : ℤ) (table : ℕ) (moment : ℤ) (row : NewRow) → n ≡ table → bytes ≡ row.key.values.items → start ≡ row.key.start → from ≡ moment → end ≡ row.end → to ≡ forever
     → ((m : Records) → Represents old m → Represents new (changed (key_of n bytes start from) (with_ends end to) m) × (count ≡ length (filter (same_key (key_of n bytes start from)) m.versions)))
     → (m : Records) → Represents old m → Represents new (changed (key_at table moment row.key) (with_ends row.end forever) m) × (count ≡ length (filter (same_key (key_at table moment row.key)) m.versions))

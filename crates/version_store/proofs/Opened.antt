@@ -1,4 +1,4 @@
--- What an opened store represents, before it is accepted and after.
+-- The contents that an opened store represents, before it is accepted and after.
 use Rattle.std.proofs.Common.{◌≡◌, ◌∙◌, sym, subst}
 use Rattle.sqlite.specs.Effect.{Database}
 use Rattle.sqlite.specs.Held.{state}

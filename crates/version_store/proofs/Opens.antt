@@ -32,7 +32,7 @@ use Rattle.version_store.specs.Units.{in_microseconds, version_of}
 use Rattle.version_store.proofs.Judged.{same_form, same_written}
 use Rattle.version_store.proofs.Units.{same_units}
 use Rattle.version_store.specs.Contents.{AreDated, Contents, HaveColumnValues, IsDated, TableVersion, same_version}
-use Rattle.version_store.specs.GoodStore.{AreLawful, AreTableRows, HaveTables, IsGoodStore, IsGoodVersionIn, NothingMore, AreStoreRows, IsVersionRow, AreGood}
+use Rattle.version_store.specs.GoodStore.{AreLawful, AreTableRows, HaveTables, IsGoodStore, IsGoodVersionIn, NoExtraCondition, AreStoreRows, IsVersionRow, AreGood}
 use Rattle.version_store.specs.Written.{Has, HasIn, IsReadable, written_table, written_version}
 
 -- ---- definitions
@@ -91,7 +91,7 @@ KeepsKeys db = (vs : List TableVersion) → HaveColumnValues vs → IsPermutatio
 
 module _ (db : Database) (metas tables versions : List Row) (pm : IsPermutation (map meta_shown (db.trees 0)) metas) (pt : InOrder table_shown by_rowid (db.trees 1) tables) (pv : IsPermutation (map version_shown (db.trees 2)) versions) where
   pub points_hold : HasStoreTables db.schema → KeepsKeys db → (known : List TableDef) (form : Form) (clock : ℤ) → AreStoreRows metas tables versions known form clock
-      → (good : IsGoodStore NothingMore db) × (good.contents.tables ≡ known) × (good.form ≡ form) × (good.contents.clock ≡ clock)
+      → (good : IsGoodStore NoExtraCondition db) × (good.contents.tables ≡ known) × (good.form ≡ form) × (good.contents.clock ≡ clock)
   points_hold there keys known form clock says =
       let all = all-permutation (IsVersionRow form known clock) _ _ (IsPermutation-sym _ _ pv) says.each in
       let vs = says_all form known clock (map version_shown (db.trees 2)) all in
@@ -120,7 +120,7 @@ module _ (db : Database) (metas tables versions : List Row) (pm : IsPermutation 
         refl,
       )
 
-  pub points_fail : IsGoodStore NothingMore db → ((known : List TableDef) (form : Form) (clock : ℤ) → ¬ AreStoreRows metas tables versions known form clock) → ⊥
+  pub points_fail : IsGoodStore NoExtraCondition db → ((known : List TableDef) (form : Form) (clock : ℤ) → ¬ AreStoreRows metas tables versions known form clock) → ⊥
   points_fail good none =
       let c = good.contents in
       let is : tables ≡ defined 1 (map written_table c.tables) = definitions_in_order (db.trees 1) tables (map written_table c.tables) pt good.says.tables in
@@ -136,17 +136,17 @@ module _ (db : Database) (metas tables versions : List Row) (pm : IsPermutation 
       })
 
   pub judged_good : HasStoreTables db.schema → KeepsKeys db → {L : Type 0} (r : Result (Catalog × Form × ℤ × L) OpenFault) → IfOk r (λ found. AreStoreRows metas tables versions found.0.tables found.1 found.2)
-      → IfOk r (λ found. (good : IsGoodStore NothingMore db) × (good.contents.tables ≡ found.0.tables) × (good.form ≡ found.1) × (good.contents.clock ≡ found.2))
+      → IfOk r (λ found. (good : IsGoodStore NoExtraCondition db) × (good.contents.tables ≡ found.0.tables) × (good.form ≡ found.1) × (good.contents.clock ≡ found.2))
   judged_good there keys (Err e) says = tt
   judged_good there keys (Ok found) says = points_hold there keys found.0.tables found.1 found.2 says
 
   pub judged_bad : {L : Type 0} (r : Result (Catalog × Form × ℤ × L) OpenFault) → IfErr r (λ refusal. refusal ≡ BadStore → (known : List TableDef) (form : Form) (clock : ℤ) → ¬ AreStoreRows metas tables versions known form clock)
-      → IfErr r (λ refusal. refusal ≡ BadStore → ¬ IsGoodStore NothingMore db)
+      → IfErr r (λ refusal. refusal ≡ BadStore → ¬ IsGoodStore NoExtraCondition db)
   judged_bad (Ok found) none = tt
   judged_bad (Err e) none = λ bad good. points_fail good (none bad)
 
 -- a good store has its contents
-pub has_contents : (db : Database) (good : IsGoodStore NothingMore db) → HaveDistinctRowids (db.trees 2) → AllByRecursion (λ r. is_int (rowid r) ≡ true) (db.trees 2) → HasIn good.form db good.contents
+pub has_contents : (db : Database) (good : IsGoodStore NoExtraCondition db) → HaveDistinctRowids (db.trees 2) → AllByRecursion (λ r. is_int (rowid r) ≡ true) (db.trees 2) → HasIn good.form db good.contents
 has_contents db good untied keyed = record {
   rows = record { schema = good.tables_there; says = good.says; untied = untied; keyed = keyed };
   definitions = good.readable;
@@ -154,12 +154,12 @@ has_contents db good untied keyed = record {
 }
 
 pub found_contents : (db : Database) → HaveDistinctRowids (db.trees 2) → AllByRecursion (λ r. is_int (rowid r) ≡ true) (db.trees 2) → {L : Type 0} (r : Result (Catalog × Form × ℤ × L) OpenFault)
-    → IfOk r (λ found. (good : IsGoodStore NothingMore db) × (good.contents.tables ≡ found.0.tables) × (good.form ≡ found.1) × (good.contents.clock ≡ found.2))
-    → IfOk r (λ found. (good : IsGoodStore NothingMore db) × HasIn good.form db good.contents × (good.contents.tables ≡ found.0.tables) × (good.form ≡ found.1) × (good.contents.clock ≡ found.2))
+    → IfOk r (λ found. (good : IsGoodStore NoExtraCondition db) × (good.contents.tables ≡ found.0.tables) × (good.form ≡ found.1) × (good.contents.clock ≡ found.2))
+    → IfOk r (λ found. (good : IsGoodStore NoExtraCondition db) × HasIn good.form db good.contents × (good.contents.tables ≡ found.0.tables) × (good.form ≡ found.1) × (good.contents.clock ≡ found.2))
 found_contents db untied keyed (Err e) says = tt
 found_contents db untied keyed (Ok found) says = (says.0, has_contents db says.0 untied keyed, says.1, says.2, says.3)
 
--- ---- what a database says, it says of one catalog, one form and one clock
+-- ---- a database has one catalog, one form and one clock
 
 same_written_tables : (ts us : List TableDef) → AllByRecursion IsReadable ts → AllByRecursion IsReadable us → map written_table ts ≡ map written_table us → ts ≡ us
 same_written_tables [] [] rt ru same = refl
@@ -190,6 +190,7 @@ defined_once n (a ∷ ps) (b ∷ qs) same =
     same_blobs : (a b : List ℕ) → Int (pos n) ∷ Blob a ∷ [] ≡ Int (pos n) ∷ Blob b ∷ [] → a ≡ b
     same_blobs a b e = cc
 
+-- a database has one form, one clock and one list of tables
 pub same_contents : (db : Database) (f h : Form) (c d : Contents) → HasIn f db c → HasIn h db d → (c.tables ≡ d.tables) × (f ≡ h) × (c.clock ≡ d.clock)
 same_contents db f h c d hc hd =
     let same : IsPermutation (defined 1 (map written_table c.tables)) (defined 1 (map written_table d.tables)) = IsPermutation-trans _ _ _ hc.rows.says.tables (IsPermutation-sym _ _ hd.rows.says.tables) in
@@ -227,7 +228,7 @@ IsTabledRow tables row = (v : TableVersion) × (row ≡ stored_version v) × IsT
 tabled_alike : (tables : List TableDef) (v : TableVersion) → IsTabledRow tables (stored_version v) → IsTabled tables v
 tabled_alike tables v (w, same, there) = let one : w.table ≡ v.table = cc in subst (λ (n : ℕ). (d : TableDef) × (table_of tables n ≡ Some d)) one there
 
-pub have_tables : (db : Database) (form : Form) (c : Contents) (good : IsGoodStore NothingMore db) → HasIn good.form db good.contents → HasIn form db c → HaveTables c
+pub have_tables : (db : Database) (form : Form) (c : Contents) (good : IsGoodStore NoExtraCondition db) → HasIn good.form db good.contents → HasIn form db c → HaveTables c
 have_tables db form c good its has =
     let g = good.contents in
     let rows : AllByRecursion (IsTabledRow g.tables) (map stored_version g.versions) =
@@ -255,13 +256,13 @@ module _ (form : Form) where
       record { days = subst₂ AreDays s e is.days; from = subst (λ n. IsMomentNumber (moment_in form n)) f is.from; to = subst (λ n. IsMomentNumber (end_in form n)) t is.to }
 
 -- a good store's versions
-pub good_dated : {db : Database} (good : IsGoodStore NothingMore db) → AreDated (in_microseconds good.form good.contents).versions
+pub good_dated : {db : Database} (good : IsGoodStore NoExtraCondition db) → AreDated (in_microseconds good.form good.contents).versions
 good_dated good =
     let c = good.contents in
     all-map IsDated (version_of good.form) c.versions
     (all_weaker (IsGoodVersionIn good.form c.tables c.clock) (λ v. IsDated (version_of good.form v)) (λ v is. good_is_dated good.form c.tables c.clock v is) c.versions good.versions)
 
-pub are_dated : (db : Database) (form : Form) (c : Contents) (good : IsGoodStore NothingMore db) → good.form ≡ form → HasIn form db c → AreDated (in_microseconds form c).versions
+pub are_dated : (db : Database) (form : Form) (c : Contents) (good : IsGoodStore NoExtraCondition db) → good.form ≡ form → HasIn form db c → AreDated (in_microseconds form c).versions
 are_dated db form c good same has =
     let g = good.contents in
     let row = IsDatedRow form in

@@ -47,7 +47,7 @@ compared k x = both_equal (slice_cmp nat_cmp k.values.items x.values.items) (int
 -- ---- the versions
 
 module _ (table : ℕ) (moment : ℤ) (k : VersionKey) (v : Version) where
-  -- the same place is that of the same versions
+  -- keys at one place are keys of one version
   same : (x : VersionKey) → is_at (place_cmp k) x ≡ true → same_key (key_at table moment x) v ≡ same_key (key_at table moment k) v
   same x h =
       let parts = and_parts (is_eq (slice_cmp nat_cmp k.values.items x.values.items)) (is_eq (int_cmp k.start x.start)) (sym (compared k x) ∙ h) in

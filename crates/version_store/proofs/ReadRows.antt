@@ -1,4 +1,4 @@
--- What rows of bt_version are read as: the version rows of each table.
+-- Rows of bt_version, read as the version rows of each table.
 use Rattle.std.proofs.Common.{◌≡◌, ◌<◌, ◌≤◌, ◌==◌, ◌++◌, ◌∷◌, ◌∙◌, ℕ, zero, suc, ℤ, pos, Bool, true, false, cond, List, [], Some, append-nil, append_assoc, arith, eqb-true, length, map, refl, set, subst, subst₂, sym, ap, ap₂}
 use Rattle.std.specs.List.{All, AllByRecursion, slice_get}
 use Rattle.std.specs.List.Sorted.{IsPermutation}
@@ -53,6 +53,7 @@ none_of_nothing lists none number =
     let empty : rows_of_table lists number ≡ [] = ap (λ (l : List (List VersionRow)). rows_of_table l number) none ∙ no_lists number in
     subst (λ (l : List VersionRow). IsPermutation [] (map (version_in number) l)) (sym empty) (IsPermutation-refl [])
 
+-- the rows of a table are the list at its place
 pub here : (ls : List (List VersionRow)) (place : ℕ) (old : List VersionRow) → slice_get ls place ≡ Some old → rows_of_table ls (suc place) ≡ old
 here ls place old there = ap (λ o. option_map_or itself o []) there
 
@@ -68,6 +69,7 @@ set_elsewhere (l ∷ ls) zero (suc other) new off = refl
 set_elsewhere (l ∷ ls) (suc place) zero new off = refl
 set_elsewhere (l ∷ ls) (suc place) (suc other) new off = set_elsewhere ls place other new (λ same. off (ap suc same))
 
+-- the rows of a table stay when those of another are set
 pub others_stay : (ls : List (List VersionRow)) (place : ℕ) (new : List VersionRow) (other : ℕ) → (other ≡ suc place → ⊥) → rows_of_table (set ls place new) other ≡ rows_of_table ls other
 others_stay ls place new zero off = refl
 others_stay ls place new (suc other) off = set_elsewhere ls place other new (λ same. off (ap suc same))

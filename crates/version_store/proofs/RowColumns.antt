@@ -1,4 +1,4 @@
--- The value columns from a place on.
+-- The value columns of a table from a place on, in a loop over a row's values.
 use Rattle.std.proofs.Common.{ℕ, List, drop, filter}
 use Rattle.std.specs.List.{enumerate_from}
 use Rattle.catalog_core.specs.table.TableWords.{is_value_column}

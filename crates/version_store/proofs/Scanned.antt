@@ -1,4 +1,4 @@
--- What a scan hands over of the rows that the query shows.
+-- The rows that a scan hands over, of those that the query shows.
 use Rattle.std.proofs.Common.{◌≡◌, ℕ, ℤ, ◌+◌, ◌==◌, List, [], ◌∷◌, ◌++◌, map, filter, fold, take, drop, length, Bool, ◌&&◌, ◌≤ℤ◌, true, false, zero, suc, eqb-true, refl, sym, ap, ap₂, append_assoc, subst, subst₂, ◌∙◌, append-nil, arith, Option, Some, None, Result, Ok, Err, OnOk, true≢false}
 use Rattle.std.specs.Prelude.{IsSorted, int_le, int_lt}
 use Rattle.std.specs.List.{All, AllByRecursion}
@@ -40,7 +40,7 @@ use Rattle.version_store.specs.Units.{in_microseconds, version_of}
 use Rattle.version_store.specs.Written.{HasIn, written_in, written_version}
 use Rattle.version_store.proofs.Units.{sorted_in}
 use Rattle.version_store.proofs.Found.{passes, sorted_values}
-use Rattle.version_store.proofs.Standing.{on_ok}
+use Rattle.version_store.proofs.AfterCalls.{on_ok}
 
 -- ---- lists
 
@@ -65,8 +65,8 @@ front_sorted xs ys h k d low high =
     let before = get_or_append_left xs ys d k (omega arith) in
     subst₂ (λ a b. below a b ≡ false) after before (h k d low (omega arith))
 
-rest_behind : (xs ys : List TableVersion) → IsSorted version_cmp (xs ++ ys) → All (λ (x : TableVersion). All (λ (y : TableVersion). below y x ≡ false) ys) xs
-rest_behind xs ys h i d low j e high =
+rest_after : (xs ys : List TableVersion) → IsSorted version_cmp (xs ++ ys) → All (λ (x : TableVersion). All (λ (y : TableVersion). below y x ≡ false) ys) xs
+rest_after xs ys h i d low j e high =
     let long = length-append xs ys in
     let first = get_or_append_left xs ys d i low in
     let second = get_or-append-add xs ys j d ∙ get_or_default ys j d e high in
@@ -108,7 +108,7 @@ given_are : (ys : List TableVersion) → map shown (map written_version ys) ≡ 
 given_are [] = refl
 given_are (y ∷ ys) = ap (λ rows. shown (written_version y) ∷ rows) (given_are ys)
 
--- what is chosen by moments is what the query selects
+-- versions chosen by moments are those that the query selects
 chosen_in : (form : Form) (table : ℕ) (selection : Selection) (chooses : ℤ → ℤ → Bool) (vs : List TableVersion) → Selects form selection chooses
     → map (version_of form) (chosen_of table (selects selection) vs) ≡ chosen_of table chooses (map (version_of form) vs)
 chosen_in form table selection chooses vs sure =
@@ -127,7 +127,7 @@ first_are form c table selection chooses ys n rows sure same up is =
     record {
       all = subst₂ IsPermutation (chosen_in form table selection chooses c.versions sure) parts (IsPermutation-map f _ _ same);
       sorted = front_sorted _ _ sorted;
-      behind = rest_behind _ _ sorted;
+      behind = rest_after _ _ sorted;
     }
 
 -- ---- one row
@@ -173,7 +173,7 @@ chosen_written table selection vs =
     ap (filter (λ (v : Version). selects selection v.from v.to)) (filter-map (λ (v : Version). v.table == table) written_version vs)
     ∙ filter-map (λ (v : Version). selects selection v.from v.to) written_version (of_table table vs)
 
--- what the query shows are the chosen versions, in order
+-- the rows that the query shows are the chosen versions, in order
 pub record FoundChosen (c : Contents) (table : ℕ) (selection : Selection) (found : List Version) : Type 0 where
   pub versions : List TableVersion
   pub all : IsPermutation (chosen_of table (selects selection) c.versions) versions
@@ -212,11 +212,11 @@ visits form next c table selection chooses old new result found given more sure 
       on_ok result (λ none. ap (map (version_of form)) (drop_all n ys (omega (arith, long, wide, ap length none)))) all,
     )
 
--- the same contents are visited in one way
+-- equal contents are visited in one way
 pub visits_same : {M X : Type 0} (next : M → VersionRow → M) (c d : Contents) (table : ℕ) (chooses : ℤ → ℤ → Bool) (old new : M) (result : Result X Refusal) → c ≡ d → VisitsChosen next c table chooses old new result → VisitsChosen next d table chooses old new result
 visits_same next c d table chooses old new result same visited = subst (λ (e : Contents). VisitsChosen next e table chooses old new result) same visited
 
--- what keeps each row of a scan keeps them all
+-- a visitor that keeps each row of a scan keeps them all
 kept_all : (before rows : List VersionRow) → fold (λ (kept : List VersionRow) (row : VersionRow). kept ++ row ∷ []) before rows ≡ before ++ rows
 kept_all before [] = sym (append-nil before)
 kept_all before (row ∷ rows) = kept_all (before ++ row ∷ []) rows ∙ append_assoc before (row ∷ []) rows
@@ -225,7 +225,7 @@ whole_of : (vs : List TableVersion) → filter (λ (v : TableVersion). selects W
 whole_of [] = refl
 whole_of (v ∷ vs) = ap (λ l. v ∷ l) (whole_of vs)
 
--- all versions of a table, where all are chosen
+-- all versions of a table, if all are chosen
 pub all_rows : {X : Type 0} (c : Contents) (table : ℕ) (old new : List VersionRow) (x : X) → old ≡ [] → VisitsChosen (λ (kept : List VersionRow) (row : VersionRow). kept ++ row ∷ []) c table (selects Whole) old new (let r : Result X Refusal = Ok x in r)
     → AreRowsOf c table new
 all_rows c table old new x none visited =
@@ -289,7 +289,7 @@ module _ {S M : Type 0} (g : Ghosts S) (form : Form) (next : M → VersionRow �
       → TookOne form next mid new row → HasVisited g form next table selection first now old new
   one_visited before now old mid new was row after gives is taken = (was.0 ++ row ∷ [], rw is at gives, one_more form next table old mid new was.0 row was.2 taken)
 
-  -- a refusal, where the query has given the rows so far
+  -- a refusal, if the query has given the rows so far
   pub some_visits : (now : Held S) (old mid new : M) (refusal : Refusal) → HasVisited g form next table selection first now old mid → new ≡ mid → HasCleanDisk (state g now) → (c : Contents) → HasIn form (state g first).now c
       → (chooses : ℤ → ℤ → Bool) → Selects form selection chooses → VisitsChosen next (in_microseconds form c) table chooses old new (let r : Result (Unit {0}) Refusal = Err refusal in r)
   some_visits now old mid new refusal was same clean c has chooses sure =

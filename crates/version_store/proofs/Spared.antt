@@ -1,4 +1,4 @@
--- What a plan leaves as it was.
+-- The versions that a plan leaves as they were.
 use Rattle.std.proofs.Common.{◌≡◌, ◌&&◌, ◌||◌, ℕ, ℤ, Bool, true, false, not, cond, nat_eq, List, [], ◌∷◌, ◌++◌, map, refl, sym, ap, ap₂, ◌∙◌, arith, append-nil}
 use Rattle.std.specs.List.{filter, flat_map}
 use Rattle.std.specs.Ordering.{int_cmp, is_eq}
@@ -61,6 +61,7 @@ none_added table other moment off (row ∷ rows) =
     ap (λ b. cond b (added_in table moment forever row ∷ of_table other (map (added_in table moment forever) rows)) (of_table other (map (added_in table moment forever) rows))) off
     ∙ none_added table other moment off rows
 
+-- a plan leaves the versions of the other tables
 pub other_tables : (table other : ℕ) (moment : ℤ) (ended : List VersionRow) (added : List PeriodRow) (c : Contents) → (other ≡ table → ⊥)
     → of_table other (planned table moment ended added c).versions ≡ of_table other c.versions
 other_tables table other moment ended added c apart =

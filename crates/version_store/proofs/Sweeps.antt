@@ -1,4 +1,4 @@
--- What the changes of version rows are on their bytes, and one after another.
+-- Changes of version rows over their bytes, and one after another.
 use Rattle.std.proofs.Common.{◌≡◌, ℕ, ◌+◌, ◌<◌, ℤ, List, [], ◌∷◌, ◌++◌, map, filter, take, get_or, length, Bool, true, false, not, cond, ◌&&◌, ◌||◌, ◌==◌, refl, sym, ap, subst, ◌∙◌, append-nil, append_assoc, Ordering, Less, Equal, Greater}
 use Rattle.std.specs.List.{All, flat_map}
 use Rattle.std.specs.List.Sorted.{IsPermutation}
@@ -26,7 +26,7 @@ use Rattle.version_store.specs.Written.{Has, written, written_version}
 
 -- ---- keys
 
--- the bytes of two keys are the same exactly where the keys are
+-- the bytes of two keys are the same exactly if the keys are
 pub same_bytes : (k v : TableVersion) → All IsColumnValue k.values → All IsColumnValue v.values → same_key (written_version k) (written_version v) ≡ same_version k v
 same_bytes k v hk hv =
     ap (λ o. (v.table == k.table) && (is_eq o && (is_eq (int_cmp v.start k.start) && is_eq (int_cmp v.from k.from)))) (keeps_order v.values k.values hv hk)
@@ -36,7 +36,7 @@ equal Less h = absurd cc
 equal Equal h = refl
 equal Greater h = absurd cc
 
--- the same version began at the same moment
+-- equal versions began at one moment
 same_from : (k v : TableVersion) → same_version k v ≡ true → v.from ≡ k.from
 same_from k v h =
     let values = is_eq (values_cmp v.values k.values) in
@@ -48,7 +48,7 @@ same_from k v h =
 
 -- ---- one row that ends
 
--- what is left of a version as one row ends
+-- the remains of a version as one row ends
 abbrev pub step : TableVersion → ℤ → TableVersion → List TableVersion
 step k moment v = cond (same_version k v) (closed_at moment v) (v ∷ [])
 
@@ -140,7 +140,7 @@ flat_twice : {A B C : Type 0} (g : B → List C) (f : A → List B) (xs : List A
 flat_twice g f [] = refl
 flat_twice g f (x ∷ xs) = flat_map-append g (f x) (flat_map f xs) ∙ ap (λ l. flat_map g (f x) ++ l) (flat_twice g f xs)
 
--- what is left of what is left
+-- the remains of remains
 left_again : (table : ℕ) (moment : ℤ) (rows : List VersionRow) (row : VersionRow) (v : TableVersion) (a : Bool) → flat_map (remains_of table moment (row ∷ [])) (cond a (closed_at moment v) (v ∷ [])) ≡ cond (a || same_version (version_in table row) v) (closed_at moment v) (v ∷ [])
 left_again table moment rows row v true = began (is_eq (int_cmp v.from moment)) refl
   where

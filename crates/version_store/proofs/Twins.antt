@@ -19,7 +19,7 @@ use Rattle.version_tables.specs.Rows.{HaveOneKey, RepeatKey, ShareBytes, ShareNu
 use Rattle.version_store.proofs.Opens.{stored_version, twice}
 use Rattle.version_store.proofs.Sweeps.{same_bytes}
 use Rattle.version_store.specs.Contents.{HaveColumnValues, TableVersion, same_version}
-use Rattle.version_store.specs.GoodStore.{IsGoodStore, IsGoodVersionIn, NothingMore}
+use Rattle.version_store.specs.GoodStore.{IsGoodStore, IsGoodVersionIn, NoExtraCondition}
 use Rattle.version_store.specs.Written.{written_version}
 
 -- ---- two rows
@@ -96,7 +96,7 @@ none_repeats (x ∷ y ∷ rows) up (suc k) low key =
     let next : suc k + 1 ≡ suc (k + 1) = omega arith in
     none_repeats (y ∷ rows) up.1 k (omega (arith, low)) (subst (λ m. HaveOneKey (slice_index_or (x ∷ y ∷ rows) (suc k) []) (slice_index_or (x ∷ y ∷ rows) m [])) next key)
 
-pub good_keys : (db : Database) (versions : List Row) → IsPermutation (map version_shown (db.trees 2)) versions → RepeatKey versions → ¬ IsGoodStore NothingMore db
+pub good_keys : (db : Database) (versions : List Row) → IsPermutation (map version_shown (db.trees 2)) versions → RepeatKey versions → ¬ IsGoodStore NoExtraCondition db
 good_keys db versions shown repeats good =
     let c = good.contents in
     let held : HaveColumnValues c.versions = all_weaker (IsGoodVersionIn good.form c.tables c.clock) (λ (v : TableVersion). All IsColumnValue v.values) (λ v good. good.held) c.versions good.versions in

@@ -17,16 +17,17 @@ use Rattle.catalog_core.specs.declared.table.TableDef.{TableDef}
 use Rattle.catalog_core.specs.table.TableWords.{table_of}
 use Rattle.version_tables.specs.Forms.{IsNumberIn, end_in, moment_in, open_end}
 use Rattle.version_tables.specs.Good.{AreMoments, IsClock}
+use Rattle.version_tables.specs.Healthy.{AreShort}
 use Rattle.version_tables.specs.Moves.{AreInSeconds, HasSeconds, moved, moved_version}
 use Rattle.version_tables.specs.Represents.{Version}
 use Rattle.version_tables.specs.declared.form.Form.{Form}
 use Rattle.version_tables.specs.declared.form.Form.TheVariants.{Seconds, Microseconds}
 use Rattle.version_tables.specs.declared.selection.Selection.TheVariants.{EndingAt}
 use Rattle.version_store.specs.Contents.{AreDated, Contents, HaveColumnValues, TableVersion, version_cmp}
-use Rattle.version_store.specs.GoodStore.{AreGood, HaveTables, IsGoodStore, IsGoodVersion, IsGoodVersionIn, NothingMore}
+use Rattle.version_store.specs.GoodStore.{AreGood, HaveTables, IsGoodStore, IsGoodVersion, IsGoodVersionIn, NoExtraCondition}
 use Rattle.version_store.specs.Scans.{Selects}
 use Rattle.version_store.specs.Units.{in_microseconds, version_of}
-use Rattle.version_store.specs.Written.{written, written_in, written_version}
+use Rattle.version_store.specs.Written.{HaveShortValues, written, written_in, written_version}
 
 -- ---- microseconds are microseconds
 
@@ -34,6 +35,7 @@ all_same : (vs : List TableVersion) → map (version_of Microseconds) vs ≡ vs
 all_same [] = refl
 all_same (v ∷ vs) = ap (λ l. v ∷ l) (all_same vs)
 
+-- contents in microseconds are as they are counted
 pub same_units : (c : Contents) → in_microseconds Microseconds c ≡ c
 same_units c = ap (λ (vs : List TableVersion). record c { versions = vs }) (all_same c.versions)
 
@@ -47,7 +49,7 @@ not_last s less = go (int_eq s last_second) refl
     go true e = absurd (grind (arith, nat_tests, ints, e, less))
     go false e = refl
 
--- what is true of the open end and of every other end is true of each
+-- a statement that is true of the open end and of every other end is true of each
 end_cases : (P : ℤ → Type 0) (s : ℤ) → P forever → P (second_start s) → P (moved_end s)
 end_cases P s at_forever other = go (int_eq s last_second)
   where
@@ -145,13 +147,13 @@ sorted_in form vs up k d low high =
 
 -- ---- the contents
 
--- they have the tables, and values of columns
+-- the contents have the tables, and values of columns
 pub tables_in : (form : Form) (c : Contents) → HaveTables c → HaveTables (in_microseconds form c)
 tables_in form c tabled =
     all-map (λ (v : TableVersion). (d : TableDef) × (table_of c.tables v.table ≡ Some d)) (version_of form) c.versions tabled
 
 -- a good store's contents are good
-pub good_contents : {db : _} (good : IsGoodStore NothingMore db) → AreGood NothingMore (in_microseconds good.form good.contents)
+pub good_contents : {db : _} (good : IsGoodStore NoExtraCondition db) → AreGood NoExtraCondition (in_microseconds good.form good.contents)
 good_contents good = record {
   clock = clock_is good.form good.contents.clock good.clock;
   few = good.few;
@@ -176,6 +178,15 @@ have_seconds (v ∷ vs) dated = ((number_of_moment Seconds v.from dated.0.from, 
 
 pub are_in_seconds : (c : Contents) (clock : ℤ) → clock ≡ (in_microseconds Seconds c).clock → AreDated (in_microseconds Seconds c).versions → AreInSeconds clock (written_in Seconds c)
 are_in_seconds c clock same dated = (sym same, have_seconds c.versions dated)
+
+-- and short ones were short
+pub were_short : (form : Form) (vs : List TableVersion) → HaveShortValues (map (version_of form) vs) → AreShort (map written_version vs)
+were_short form [] short = tt
+were_short form (v ∷ vs) short = (short.0, were_short form vs short.1)
+
+pub short_in : (form : Form) (vs : List TableVersion) → HaveShortValues vs → HaveShortValues (map (version_of form) vs)
+short_in form [] short = tt
+short_in form (v ∷ vs) short = (short.0, short_in form vs short.1)
 
 -- values stay
 pub values_in : (form : Form) (vs : List TableVersion) → HaveColumnValues vs → HaveColumnValues (map (version_of form) vs)

@@ -1,4 +1,4 @@
--- What the changes make of a store's contents.
+-- The contents of a store after a change.
 use Rattle.std.specs.Prelude.{◌++◌, ◌∷◌, [], ℕ, ℤ, Bool, cond, List, map}
 use Rattle.std.specs.List.{AllByRecursion, flat_map, list_any}
 use Rattle.std.specs.Ordering.{int_cmp, is_eq}
@@ -20,7 +20,7 @@ with_table definition c = record c { tables = c.tables ++ definition ∷ [] }
 abbrev pub with_clock : ℤ → Contents → Contents
 with_clock moment c = record c { clock = moment }
 
--- a version that is closed at the moment: it is removed where it began then
+-- a version that is closed at the moment: it is removed if it began then
 abbrev pub closed_at : ℤ → TableVersion → List TableVersion
 closed_at moment v = cond (is_eq (int_cmp v.from moment)) [] (record v { to = moment } ∷ [])
 
@@ -28,7 +28,7 @@ closed_at moment v = cond (is_eq (int_cmp v.from moment)) [] (record v { to = mo
 abbrev pub is_ended : ℕ → List VersionRow → TableVersion → Bool
 is_ended table ended v = list_any (λ row. same_version (version_in table row) v) ended
 
--- what is left of a version: it is closed at the moment if it is one of the ended rows, and else
+-- the remains of a version: it is closed at the moment if it is one of the ended rows, and else
 -- stays
 abbrev pub remains_of : ℕ → ℤ → List VersionRow → TableVersion → List TableVersion
 remains_of table moment ended v = cond (is_ended table ended v) (closed_at moment v) (v ∷ [])
@@ -43,7 +43,7 @@ abbrev pub added_at : ℕ → ℤ → List PeriodRow → Contents → Contents
 added_at table moment added c =
     record c { versions = c.versions ++ map (added_in table moment forever) added }
 
--- what a plan makes of a table at a moment: rows end, and then rows are added
+-- the contents after a plan for a table at a moment: rows end, and then rows are added
 abbrev pub planned : ℕ → ℤ → List VersionRow → List PeriodRow → Contents → Contents
 planned table moment ended added c = added_at table moment added (ended_at table moment ended c)
 

@@ -1,4 +1,4 @@
--- What a store holds: the tables' definitions, the clock, the version rows.
+-- The contents of a store: the tables' definitions, the clock, the version rows.
 use Rattle.std.specs.Prelude.{◌≡◌, ◌==◌, ◌&&◌, ◌++◌, ◌∷◌, ℕ, ℤ, Bool, List, [], length, map}
 use Rattle.std.specs.Prelude.{filter}
 use Rattle.std.specs.Prelude.{IsPermutation, IsSorted}

@@ -1,4 +1,4 @@
--- That no version is recorded twice.
+-- No version is recorded twice.
 use Rattle.std.specs.Prelude.{◌≡◌, false, List}
 use Rattle.sqlite.specs.Tree.{IsAscending}
 use Rattle.version_store.specs.Contents.{TableVersion, same_version}

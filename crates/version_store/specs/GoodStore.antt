@@ -1,4 +1,4 @@
--- Which databases are good stores, point by point.
+-- Good stores, point by point.
 use Rattle.std.specs.Prelude.{◌≡◌, ◌≤◌, ◌+◌, ℤ, pos, true, false, List, [], ◌∷◌, ◌++◌}
 use Rattle.std.specs.Prelude.{ℕ, length, map, Some}
 use Rattle.std.specs.List.{All, AllByRecursion}
@@ -36,7 +36,7 @@ pub record IsGoodVersionIn (form : Form) (tables : List TableDef) (clock : ℤ) 
   pub days : AreDays v.start v.end
   pub moments : AreMoments form clock v.from v.to
 
--- the same in microseconds
+-- a good version with its moments in microseconds
 abbrev pub IsGoodVersion : List TableDef → ℤ → TableVersion → Type 0
 IsGoodVersion = IsGoodVersionIn Microseconds
 
@@ -52,8 +52,8 @@ AreLawful before (d ∷ more) = IsLawful before d × AreLawful (before ++ d ∷ 
 
 -- the points that are judged; what keys and references ask of the contents is a parameter
 pub record IsGoodStore (Constrained : Contents → Type 0) (db : Database) : Type 0 where
-  -- what it stands for: the rows of the three tables are those of these contents, in the unit of
-  -- this form
+  -- the contents that it represents: the rows of the three tables are those of these contents, in
+  -- the unit of this form
   pub form : Form
   pub contents : Contents
   pub says : HasRecords db (written_in form contents)
@@ -83,10 +83,10 @@ pub record AreGood (Constrained : Contents → Type 0) (c : Contents) : Type 0 w
   pub constrained : Constrained c
 
 -- no more is asked: the points 1 to 5 alone
-abbrev pub NothingMore : Contents → Type 0
-NothingMore c = Unit {0}
+abbrev pub NoExtraCondition : Contents → Type 0
+NoExtraCondition c = Unit {0}
 
--- ---- the same of the rows that the queries show
+-- ---- good stores by the rows that the queries show
 
 -- a row of bt_table: the next number, and the bytes of a definition that may follow those before it
 pub record IsTableRow (before : List TableDef) (row : Row) (d : TableDef) : Type 0 where
@@ -94,7 +94,7 @@ pub record IsTableRow (before : List TableDef) (row : Row) (d : TableDef) : Type
   pub readable : IsReadable d
   pub lawful : IsLawful before d
 
--- the rows are those of the definitions, after those before them
+-- the rows are the definitions', after the rows before them
 abbrev pub AreTableRows : List TableDef → List Row → List TableDef → Type 0
 AreTableRows before [] [] = Unit {0}
 AreTableRows before [] (d ∷ more) = ⊥
@@ -102,12 +102,12 @@ AreTableRows before (row ∷ rows) [] = ⊥
 AreTableRows before (row ∷ rows) (d ∷ more) =
     IsTableRow before row d × AreTableRows (before ++ d ∷ []) rows more
 
--- the rows of bt_table: those of at most 64 definitions
+-- the rows of bt_table: at most 64 definitions
 pub record AreTables (rows : List Row) (tables : List TableDef) : Type 0 where
   pub few : length rows ≤ most_tables
   pub each : AreTableRows [] rows tables
 
--- a row of bt_version: that of a good version
+-- a row of bt_version: a good version
 abbrev pub IsVersionRow : Form → List TableDef → ℤ → Row → Type 0
 IsVersionRow form tables clock row =
     (v : TableVersion) × (row ≡ stored (written_version v)) × IsGoodVersionIn form tables clock v

@@ -1,4 +1,4 @@
--- What a plan leaves as it was. Each law is the contract of a function of this crate.
+-- The versions that a plan leaves as they were. Each law is the contract of a function here.
 use Rattle.std.specs.Prelude.{◌≡◌, ℕ, ℤ, List, filter, not}
 use Rattle.period_core.specs.declared.row.PeriodRow.{PeriodRow}
 use Rattle.period_core.specs.declared.version.VersionRow.{VersionRow}

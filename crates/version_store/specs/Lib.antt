@@ -5,6 +5,7 @@ pub mod Units
 pub mod Written
 pub mod StoreState
 pub mod Steps
+pub mod Copies
 pub mod PendingRemovals
 pub mod Scans
 pub mod RowValues

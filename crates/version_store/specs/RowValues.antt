@@ -1,4 +1,4 @@
--- Which values a row of a table has.
+-- The values that a row of a table may have.
 use Rattle.std.specs.Prelude.{◌&&◌, ℕ, Bool, true, false, List, [], ◌∷◌, length, nat_le}
 use Rattle.std.specs.Str.{chars}
 use Rattle.period_core.specs.declared.value.Value.{Value}

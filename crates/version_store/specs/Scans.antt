@@ -1,4 +1,4 @@
--- What a scan passes on: the versions of a table that a system-time window sees, one by one.
+-- A scan: the versions of a table that a system-time window sees, one by one.
 use Rattle.std.specs.Prelude.{◌≡◌, ◌⊎◌, ◌++◌, ℕ, ℤ, Bool, false, List, [], map, filter, fold}
 use Rattle.std.specs.Prelude.{Err, Ok, None, Option, Some, int_le, int_lt}
 use Rattle.std.specs.Prelude.{IsPermutation, IsSorted, OnOk, Result}
@@ -21,7 +21,7 @@ use Rattle.version_store.specs.StoreState.{IsStoreRefusal}
 abbrev pub chosen_of : ℕ → (ℤ → ℤ → Bool) → List TableVersion → List TableVersion
 chosen_of table chooses versions = filter (λ v. chooses v.from v.to) (of_table table versions)
 
--- those that the window sees
+-- the versions that the window sees
 abbrev pub seen_of : ℕ → Window → List TableVersion → List TableVersion
 seen_of table window = chosen_of table (window_sees window)
 
@@ -36,11 +36,11 @@ pub record AreFirst (c : Contents) (table : ℕ) (chooses : ℤ → ℤ → Bool
       (λ (row : TableVersion). All (λ (v : TableVersion). is_lt (version_cmp v row) ≡ false) rest)
       (map (version_in table) rows)
 
--- the same of those that a window sees
+-- the first rows in order, of those that a window sees
 abbrev pub AreFirstSeen : Contents → ℕ → Window → List VersionRow → List TableVersion → Type 0
 AreFirstSeen c table window = AreFirst c table (window_sees window)
 
--- AS OF FOREVER; FROM a TO b where a is not before b; BETWEEN a AND b where b is before a: such a
+-- AS OF FOREVER; FROM a TO b if a is not before b; BETWEEN a AND b if b is before a: such a
 -- window sees no version that a store has
 abbrev pub is_empty : Window → Bool
 is_empty Now = false
@@ -60,7 +60,7 @@ VisitsChosen next c table chooses old new result =
     (rows : List VersionRow) × (rest : List TableVersion)
     × AreFirst c table chooses rows rest × (new ≡ fold next old rows) × OnOk result (rest ≡ [])
 
--- the same of those that a window sees
+-- a visit of the rows that a window sees
 abbrev pub Visits : {M X : Type 0} → (M → VersionRow → M) → Contents → ℕ → Window → M → M
     → Result X Refusal → Type 0
 Visits next c table window = VisitsChosen next c table (window_sees window)

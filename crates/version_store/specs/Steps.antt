@@ -1,7 +1,8 @@
--- What a step inside a transaction makes, and what a whole transaction makes.
+-- A step inside a transaction, and a whole transaction.
 use Rattle.std.specs.Prelude.{◌≡◌, ◌+◌, ℕ, IfErr, IsTrue, OnOk, Result}
 use Rattle.sqlite.specs.Store.{Ghosts}
 use Rattle.sqlite.specs.State.{HasCleanDisk}
+use Rattle.sqlite.specs.Effect.{Database}
 use Rattle.sqlite.specs.Held.{Held, state}
 use Rattle.version_tables.specs.Represents.{Records, Represents}
 use Rattle.version_tables.specs.Healthy.{IsHealthy}
@@ -26,7 +27,7 @@ Commits g old new result change =
     → OnOk result (Has (state g new).now (change c)
     × ((state g new).committed ≡ (state g new).now))
 
--- the same of the rows of the three tables, where P holds of them
+-- a commit of a change of the three tables' rows, if P holds of them
 abbrev pub CommitsWhere : {S X E : Type 0} → Ghosts S → Held S → Held S → Result X E
     → (Records → Type 0) → (Records → Records) → Type 0
 CommitsWhere g old new result P change =
@@ -38,7 +39,7 @@ CommitsWhere g old new result P change =
 -- ---- why a change fails
 
 -- inside a transaction over a healthy database, with room for so many versions more, a fault has a
--- cause where P holds of the records that it represents
+-- cause if P holds of the records that it represents
 abbrev pub ChangeIsCaused : {S X : Type 0} → Ghosts S → Held S → Held S → Result X StoreFault → ℕ
     → (Records → Type 0) → Type 0
 ChangeIsCaused g old new result count P =
@@ -46,7 +47,7 @@ ChangeIsCaused g old new result count P =
     → (records : Records) → Represents (state g old).now records → P records
     → IfErr result (IsCaused (state g old) (state g new))
 
--- so it has where P holds of contents that the database has
+-- a fault of a plan has a cause if P holds of the contents that the database has
 abbrev pub PlanIsCaused : {S X : Type 0} → Ghosts S → Held S → Held S → Result X StoreFault → ℕ
     → (Contents → Type 0) → Type 0
 PlanIsCaused g old new result count P =
@@ -54,7 +55,7 @@ PlanIsCaused g old new result count P =
     → (c : Contents) → Has (state g old).now c → P c
     → IfErr result (IsCaused (state g old) (state g new))
 
--- on Ok such a change leaves the database healthy, and so many versions use up room
+-- on Ok a plan leaves the database healthy, and so many versions use up room
 abbrev pub PlanStaysHealthy : {S X E : Type 0} → Ghosts S → Held S → Held S → Result X E → ℕ
     → Type 0
 PlanStaysHealthy g old new result used =
@@ -62,7 +63,7 @@ PlanStaysHealthy g old new result used =
     → IsHealthy (used + left) (state g old).now → (c : Contents) → Has (state g old).now c
     → OnOk result (IsHealthy left (state g new).now)
 
--- so has one of a whole transaction
+-- a fault of a whole transaction has a cause if P holds of the records
 abbrev pub CommitIsCaused : {S X : Type 0} → Ghosts S → Held S → Held S → Result X StoreFault → ℕ
     → (Records → Type 0) → Type 0
 CommitIsCaused g old new result count P =
@@ -77,7 +78,14 @@ CommitsHealthy g old new result used =
     HasCleanDisk (state g new) → (left : ℕ) → IsHealthy (used + left) (state g old).now
     → (c : Contents) → Has (state g old).now c → OnOk result (IsHealthy left (state g new).now)
 
--- the same of contents that P holds of
+-- so it does of a database of which P holds, and none of the room is used up
+abbrev pub CommitsHealthyWhere : {S X E : Type 0} → Ghosts S → Held S → Held S → Result X E
+    → (Database → Type 0) → Type 0
+CommitsHealthyWhere g old new result P =
+    HasCleanDisk (state g new) → (left : ℕ) → IsHealthy left (state g old).now
+    → P (state g old).now → OnOk result (IsHealthy left (state g new).now)
+
+-- a cause for the failure of a commit, over contents that P holds of
 abbrev pub CommitOfIsCaused : {S X : Type 0} → Ghosts S → Held S → Held S → Result X StoreFault → ℕ
     → (Contents → Type 0) → Type 0
 CommitOfIsCaused g old new result count P =

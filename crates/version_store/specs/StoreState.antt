@@ -1,4 +1,4 @@
--- What a store keeps in memory, and which contents it represents.
+-- The state of a store in memory, and the contents that it represents.
 use Rattle.std.specs.Prelude.{◌≡◌, ◌⊎◌, ◌+◌, ℕ, ℤ, IfErr, IsTrue, OnErr, OnOk, Result, refl}
 use Rattle.std.specs.Coded.{Coded, code_by, coded×, coded_ℤ}
 use Rattle.catalog_core.specs.contracts.table.catalog.Catalog.{the_row}
@@ -32,7 +32,7 @@ pub record StoreState (S : Type 0) : Type 0 where
   pub catalog : Catalog
   pub clock : ℤ
 
--- its form for the model: the three, one after the other
+-- the model's form of it: the three parts, one after the other
 abbrev pub store_state_code : {S : Type 0} → Coded S → Coded (StoreState S)
 store_state_code {S} store =
     code_by (Held S × (Catalog × ℤ)) (coded× (held_code store) (coded× the_row.coded coded_ℤ))
@@ -44,12 +44,12 @@ store_state_code {S} store =
 abbrev pub IsUsable : {S : Type 0} → Ghosts S → Held S → Type 0
 IsUsable g connection = HasCleanDisk (state g connection) × IsTrue (state g connection).is_open
 
--- a store in memory is always so
+-- a store in memory is always usable
 abbrev pub MemoryIsUsable : Type 0
 MemoryIsUsable = (connection : Held MemStore) → IsUsable over_memory connection
 
--- where the connection is usable as a call ends, others have in its database what they had, which
--- has the store's three tables before what is theirs
+-- if the connection is usable as a call ends, others have in its database what they had, if the
+-- store's three tables come before theirs
 abbrev pub SparesOthers : {S : Type 0} → Ghosts S → Held S → Held S → Type 0
 SparesOthers g old new = IsUsable g new → LeavesOthers g old new
 
@@ -69,7 +69,7 @@ pub record OpenedState (S : Type 0) : Type 0 where
   pub store : StoreState S
   pub form : Form
 
--- its form for the model: the two, one after the other
+-- the model's form of it: the two parts, one after the other
 abbrev pub opened_state_code : {S : Type 0} → Coded S → Coded (OpenedState S)
 opened_state_code {S} store =
     code_by (StoreState S × Form) (coded× (store_state_code store) a_form.coded)
@@ -97,7 +97,7 @@ Changes g old new result change =
     IsUsable g new.connection → (c : Contents) → StoreRepresents g old c
     → OnOk result (StoreRepresents g new (change c)) × OnErr result (StoreRepresents g new c)
 
--- where a call is refused and the connection is usable as it ends, the database is as before
+-- if a call is refused and the connection is usable as it ends, the database is as before
 abbrev pub StaysOnErr : {S X E : Type 0} → Ghosts S → Held S → Held S → Result X E → Type 0
 StaysOnErr g old new result =
     IsUsable g new → OnErr result (IsAsBefore (state g old) (state g new))
@@ -118,8 +118,8 @@ IsStoreRefusal refusal = (refusal ≡ Memory) ⊎ (refusal ≡ Store)
 
 -- a new store was added after what others have, whose tables have the rows that they had; and that
 -- is committed
-abbrev pub IsMadeBehind : State → State → Type 0
-IsMadeBehind old new =
+abbrev pub IsCreatedAfter : State → State → Type 0
+IsCreatedAfter old new =
     IsBegunIn (form_number Microseconds) first_moment old.now new.now
     × (new.committed ≡ new.now)
 
@@ -132,10 +132,10 @@ IsFailure g old new refusal = (refusal ≡ Memory) ⊎ HasFault (state g old) (s
 abbrev pub IsOpenRefusal : Refusal → Type 0
 IsOpenRefusal refusal = (refusal ≡ BadStore) ⊎ IsStoreRefusal refusal
 
--- the three tables, where all of them are there, are as the store makes them; those of others
+-- the three tables, if all of them are there, are as the store makes them; those of others
 -- follow them
-abbrev pub IsOurs : Schema → Type 0
-IsOurs schema = HasEachStoreTable schema → HasStoreTables schema
+abbrev pub OwnTablesAreWellFormed : Schema → Type 0
+OwnTablesAreWellFormed schema = HasEachStoreTable schema → HasStoreTables schema
 
 -- over a healthy database, with room for so many versions more, a change of contents of which P
 -- holds is refused for memory or a fault of the database alone

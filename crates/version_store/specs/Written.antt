@@ -7,6 +7,7 @@ use Rattle.catalog_core.specs.bytes.DefinitionValues.{definition_values}
 use Rattle.catalog_core.specs.declared.table.TableDef.{TableDef}
 use Rattle.sqlite.specs.Effect.{Database}
 use Rattle.version_tables.specs.Forms.{form_number}
+use Rattle.version_tables.specs.Healthy.{IsHealthy, IsShort}
 use Rattle.version_tables.specs.Represents.{Records, Represents, Version}
 use Rattle.version_tables.specs.declared.form.Form.{Form}
 use Rattle.version_tables.specs.declared.form.Form.TheVariants.{Microseconds}
@@ -31,7 +32,7 @@ written_table definition = encoded (definition_values definition)
 abbrev pub IsReadable : TableDef → Type 0
 IsReadable definition = EncodesDefinition definition (written_table definition)
 
--- what the three tables have in a store of the form
+-- the rows of the three tables in a store of the form
 abbrev pub written_in : Form → Contents → Records
 written_in form c = record {
   form = form_number form;
@@ -47,7 +48,17 @@ pub record HasIn (form : Form) (db : Database) (c : Contents) : Type 0 where
   pub definitions : AllByRecursion IsReadable c.tables
   pub values : HaveColumnValues c.versions
 
--- the same in microseconds, in which a store in use counts
+-- each version is short as it is written
+abbrev pub HaveShortValues : List TableVersion → Type 0
+HaveShortValues = AllByRecursion (λ v. IsShort (encoded v.values))
+
+-- the database is healthy and each version is short: a store of form 1 of which this holds is moved
+-- unless memory runs out or the database fails
+pub record IsMovable (db : Database) (c : Contents) : Type 0 where
+  pub healthy : IsHealthy 0 db
+  pub short : HaveShortValues c.versions
+
+-- the rows in microseconds, in which a store in use counts
 abbrev pub written : Contents → Records
 written = written_in Microseconds
 

@@ -87,9 +87,9 @@ impl From<StoreFault> for Refusal {
 /// Why a store is not opened.
 #[derive(Clone, Copy, Debug, PartialEq, Eq)]
 pub(crate) enum OpenFault {
-    /// It is no good store.
+    /// The database is no good store.
     BadStore,
-    /// It could not be read.
+    /// The database could not be read.
     Store(StoreFault),
 }
 

@@ -1,4 +1,4 @@
-//! Rows that a plan adds. A row that ended as it began has to be removed: where a row is added at
+//! Rows that a plan adds. A row that ended as it began has to be removed: if a row is added at
 //! its place it becomes that row, which saves a removal and an insertion.
 
 ghost use Rattle.std.specs.Prelude.{◌≡◌, ◌∷◌, [], length, map, OnOk};
@@ -115,7 +115,7 @@ fn replace_row<S: Alter>(
     }
 }
 
-/// Adds a row to a table at a moment. Where one that has to be removed has its place, it takes
+/// Adds a row to a table at a moment. If one that has to be removed has its place, it takes
 /// that.
 fn add_row<S: Alter>(
     alloc: Global,
@@ -144,7 +144,7 @@ fn add_row<S: Alter>(
     insert_row(alloc, transaction, table, moment, &new)
 }
 
-/// Adds rows to a table at a moment. They take the places of rows that have to be removed. Where
+/// Adds rows to a table at a moment. They take the places of rows that have to be removed. If
 /// none has, they are inserted together.
 pub(crate) fn add_rows<S: Alter>(
     alloc: Global,

@@ -5,11 +5,11 @@ ghost use Rattle.sqlite.specs.Held.{state};
 ghost use Rattle.sqlite.specs.State.{HasCleanDisk};
 ghost use Rattle.version_tables.specs.Good.{IsClock};
 ghost use Rattle.version_tables.specs.Represents.{HaveOwnRowids};
-ghost use Rattle.version_tables.specs.Steps.{Keeps};
+ghost use Rattle.version_tables.specs.Steps.{Keeps, KeepsFaults};
 ghost use Rattle.version_tables.specs.Tables.{HasStoreTables};
 ghost use Rattle.version_store.specs.Contents.{AreVersionsOf, Contents};
 ghost use Rattle.version_store.specs.Faults.{IsUnread};
-ghost use Rattle.version_store.specs.GoodStore.{AreLawful, IsGoodStore, NothingMore};
+ghost use Rattle.version_store.specs.GoodStore.{AreLawful, IsGoodStore, NoExtraCondition};
 ghost use Rattle.version_store.specs.Units.{in_microseconds};
 ghost use Rattle.version_store.specs.Written.{HasIn};
 ghost use Rattle.version_store.specs.declared.fault.OpenFault.TheVariants.{BadStore};
@@ -37,7 +37,7 @@ pub(crate) fn inspect<S: Alter>(
         → IsTrue (state S.Store connection.new).is_open
         → HasStoreTables (state S.Store connection.old).now.schema
         → IfOk result (λ found.
-        (good : IsGoodStore NothingMore (state S.Store connection.old).now)
+        (good : IsGoodStore NoExtraCondition (state S.Store connection.old).now)
         × HasIn good.form (state S.Store connection.old).now good.contents
         × (good.contents.tables ≡ found.0.tables) × (good.form ≡ found.1)
         × (good.contents.clock ≡ found.2)) }
@@ -50,10 +50,10 @@ pub(crate) fn inspect<S: Alter>(
         → IsTrue (state S.Store connection.new).is_open
         → HasStoreTables (state S.Store connection.old).now.schema
         → IfErr result (λ fault. fault ≡ BadStore
-        → ¬ IsGoodStore NothingMore (state S.Store connection.old).now) }
+        → ¬ IsGoodStore NoExtraCondition (state S.Store connection.old).now) }
     ensures why { HasCleanDisk (state S.Store connection.new)
         → IsTrue (state S.Store connection.new).is_open
-        → IsGoodStore NothingMore (state S.Store connection.old).now
+        → IsGoodStore NoExtraCondition (state S.Store connection.old).now
         → HaveOwnRowids ((state S.Store connection.old).now.trees 2)
         → IfErr result (IsUnread (state S.Store connection.old) (state S.Store connection.new)) }
     ensures lawful { IfOk result (λ found. AreLawful [] found.0.tables) }
@@ -62,6 +62,7 @@ pub(crate) fn inspect<S: Alter>(
         → Keeps (state S.Store connection.old) (state S.Store connection.new) }
     ensures clean { HasCleanDisk (state S.Store connection.new)
         → HasCleanDisk (state S.Store connection.old) }
+    ensures faults { KeepsFaults (state S.Store connection.old) (state S.Store connection.new) }
     ensures mode { connection.new.in_transaction ≡ false }
 {
     if !columns_there(connection) {

@@ -15,7 +15,7 @@ pub fn plans_leave_other_tables()
     ensures { PlansLeaveOtherTables }
 {}
 
-/// Where rows of a table end, the versions that are not among them stay.
+/// The versions that are not among the rows that end stay.
 pub fn others_stay()
     ensures { OthersStay }
 {}

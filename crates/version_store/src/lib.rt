@@ -4,6 +4,7 @@
 //! are opened in `specs/GoodStore`. Each change is made whole in one transaction, or not at all.
 #![tactic(auto)]
 
+mod copying;
 mod fault;
 mod insertion;
 mod inspection;

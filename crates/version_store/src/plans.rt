@@ -1,5 +1,5 @@
-//! What a plan makes of a table, step by step inside a transaction: rows end, others are added, and
-//! last those are removed that ended as they began, where none was added with their key.
+//! A plan, step by step inside a transaction: rows end, others are added, and last those are
+//! removed that ended as they began, if none was added with their key.
 
 ghost use Rattle.std.specs.Prelude.{◌≡◌, ◌∷◌, [], length, OnOk};
 ghost use Rattle.std.specs.List.{AllByRecursion};

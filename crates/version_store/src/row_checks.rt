@@ -22,7 +22,7 @@ use sqlite::Row;
 use std::alloc::Global;
 use version_tables::{Form, bytes_at, clock_of, is_definition, is_version, number_at};
 
-/// The definition that a row has, the next after those of the catalog.
+/// The definition that a row has, the next after the catalog's.
 fn read_table(alloc: Global, catalog: &Catalog, row: &Row) -> Result<TableDef, OpenFault>
     requires { length catalog.now.tables ≤ most_tables }
     ensures good { IfOk result (IsTableRow catalog.now.tables row.now) }

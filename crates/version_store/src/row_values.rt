@@ -1,4 +1,4 @@
-//! Whether values are those of a row of a table.
+//! Whether values fit a row of a table.
 
 ghost use Rattle.std.specs.Prelude.{◌≡◌};
 ghost use Rattle.version_store.specs.RowValues.{are_row_values, is_of_column};

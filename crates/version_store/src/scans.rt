@@ -29,7 +29,7 @@ use sqlite_trees::store::Alter;
 use std::alloc::Global;
 use version_tables::{Form, Selection, rows_of, to_next_row};
 
-/// The versions that a window sees, as the query selects them, or none where it is empty.
+/// The versions that a window sees, as the query selects them, or none if it is empty.
 fn selection_of(window: Window) -> Option<Selection>
     ensures { MatchOption result (is_empty window ≡ true)
         (λ selection. (is_empty window ≡ false)
@@ -135,7 +135,7 @@ fn scan_selected<S: Alter, V: RowVisitor>(
 }
 
 /// Passes the version rows of the table of a number that the window sees to the visitor, in
-/// order. Where the window is empty, the database is not called.
+/// order. If the window is empty, the database is not called.
 pub(crate) fn scan_rows<S: Alter, V: RowVisitor>(
     alloc: Global,
     connection: &mut Connection<S>,

@@ -12,14 +12,14 @@ ghost use Rattle.sqlite.specs.Held.{state};
 ghost use Rattle.version_tables.specs.Healthy.{IsHealthy, IsShort};
 ghost use Rattle.version_tables.specs.Making.{HasCounters};
 ghost use Rattle.version_tables.specs.Presence.{HasNoStoreTable};
-ghost use Rattle.version_tables.specs.Steps.{IsAsBefore};
+ghost use Rattle.version_tables.specs.Steps.{IsAsBefore, KeepsFaults};
 ghost use Rattle.version_tables.specs.Tables.{no_schema};
 ghost use Rattle.version_store.specs.Changed.{CanMake, planned, with_clock, with_table};
 ghost use Rattle.version_store.specs.Contents.{AreRowsOf, Contents, empty_contents};
 ghost use Rattle.version_store.specs.DistinctKeys.{HaveDistinctKeys};
 ghost use Rattle.version_store.specs.Scans.{AnswersRefusal, IsOwnRefusal, Visits, is_empty};
 ghost use Rattle.version_store.specs.StoreState.{Changes, FailsForReason, IsFailure};
-ghost use Rattle.version_store.specs.StoreState.{IsMadeBehind, IsOnlyRead, LeavesHealthy};
+ghost use Rattle.version_store.specs.StoreState.{IsCreatedAfter, IsOnlyRead, LeavesHealthy};
 ghost use Rattle.version_store.specs.StoreState.{IsStoreRefusal, IsUsable, SparesOthers};
 ghost use Rattle.version_store.specs.StoreState.{StaysOnErr, StoreRepresents};
 ghost use Rattle.version_store.specs.Written.{written_table};
@@ -37,6 +37,7 @@ use std::marker::Model;
 use std::mem;
 use version_tables::{Form, create};
 
+pub mod copied;
 pub mod opened;
 
 /// The tables' definitions, the clock and the version rows in a database. The definitions and the
@@ -75,9 +76,9 @@ fn take_last(alloc: Global, catalog: &mut Catalog)
 impl<S: Alter> VersionStore<S> {
     /// Makes the store's tables in a database that has none of them, in one transaction: a store
     /// without tables, whose clock is the first moment. They follow the tables of others, which are
-    /// left as they are; where there are none, the database is healthy, with room for as many
-    /// versions as there are numbers. On `Err` nothing is changed, the connection is returned, and
-    /// no transaction is open on it.
+    /// left as they are; if there are none, the database is healthy, with room for as many
+    /// versions as there are numbers, and they are refused for memory or a fault alone. On `Err`
+    /// nothing is changed, the connection is returned, and no transaction is open on it.
     pub fn create(
         alloc: Global,
         mut connection: Connection<S>,
@@ -89,7 +90,7 @@ impl<S: Alter> VersionStore<S> {
         ensures beside { IfOk result (λ store. IsUsable S.Store store.connection
             → HasNoStoreTable (state S.Store connection).now.schema
             → HasCounters (state S.Store connection).now.schema
-            → IsMadeBehind (state S.Store connection) (state S.Store store.connection)) }
+            → IsCreatedAfter (state S.Store connection) (state S.Store store.connection)) }
         ensures healthy { IfOk result (λ store. IsUsable S.Store store.connection
             → (state S.Store connection).now.schema ≡ no_schema
             → (count : ℕ) → count ≤ greatest_number
@@ -98,6 +99,11 @@ impl<S: Alter> VersionStore<S> {
             (λ store. (store.catalog.tables ≡ []) × (store.clock ≡ first_moment)) }
         ensures usable { IfOk result (λ store. IsUsable S.Store store.connection
             → IsUsable S.Store connection) }
+        ensures faults { IfOk result (λ store.
+            KeepsFaults (state S.Store connection) (state S.Store store.connection)) }
+        ensures why { IfErr result (λ failed. IsUsable S.Store failed.1
+            → (state S.Store connection).now.schema ≡ no_schema
+            → IsFailure S.Store connection failed.1 failed.0) }
         ensures none { IfErr result (λ failed. IsUsable S.Store failed.1
             → IsAsBefore (state S.Store connection) (state S.Store failed.1)) }
         ensures was_usable { IfErr result (λ failed. IsUsable S.Store failed.1
@@ -204,8 +210,8 @@ impl<S: Alter> VersionStore<S> {
     }
 
     /// Makes what a plan says of the table of a number at a moment: its ended rows are closed then,
-    /// or removed where they began then, and its added rows are recorded from then on. On `Err`
-    /// nothing is changed. Where the connection is usable as the call ends it was so before, and
+    /// or removed if they began then, and its added rows are recorded from then on. On `Err`
+    /// nothing is changed. If the connection is usable as the call ends it was so before, and
     /// then no two versions had one key. Over a healthy database, with room for the added rows, a
     /// plan of short rows, after which no two versions have one key, is refused for memory or a
     /// fault alone.
@@ -260,7 +266,7 @@ impl<S: Alter> VersionStore<S> {
     /// a time: by values, then period start, then system start. The visitor has refused no row
     /// before. Its refusal ends the scan and is answered; every other is out of memory, or comes of
     /// a fault of the database. On `Err` the visitor has received some of the first rows. Nothing
-    /// is changed. Where the window is empty, no row is passed, and the database is not called.
+    /// is changed. If the window is empty, no row is passed, and the database is not called.
     pub fn scan<V: RowVisitor>(
         &mut self,
         alloc: Global,

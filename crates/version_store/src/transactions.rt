@@ -2,13 +2,14 @@
 
 ghost use Rattle.std.specs.Prelude.{◌≡◌, ◌+◌, false, length, OnOk};
 ghost use Rattle.version_tables.specs.Keeping.{LeavesOthers};
-ghost use Rattle.version_tables.specs.Moves.{AreInSeconds, moved};
+ghost use Rattle.version_tables.specs.Moves.{AreInSeconds, IsInSeconds, moved};
 ghost use Rattle.version_tables.specs.Represents.{with_definition};
 ghost use Rattle.version_store.specs.Changed.{CanMake, planned, with_clock};
 ghost use Rattle.version_store.specs.StoreState.{IsUsable, StaysOnErr};
 ghost use Rattle.version_store.specs.Steps.{Carries, ChangeIsCaused, CommitIsCaused, Commits};
-ghost use Rattle.version_store.specs.Steps.{CommitOfIsCaused, CommitsHealthy, CommitsWhere};
-ghost use Rattle.version_tables.specs.Healthy.{IsShort};
+ghost use Rattle.version_store.specs.Steps.{CommitOfIsCaused, CommitsHealthy};
+ghost use Rattle.version_store.specs.Steps.{CommitsHealthyWhere, CommitsWhere};
+ghost use Rattle.version_tables.specs.Healthy.{AreShort, IsShort};
 ghost use Rattle.version_tables.specs.Steps.{CommitsNothing, ChangesWhere, StaysHealthy};
 
 use crate::fault::StoreFault;
@@ -136,7 +137,7 @@ pub(crate) fn write_clock<S: Alter>(
     Ok(())
 }
 
-/// Counts the moments in microseconds, where they are seconds.
+/// Counts the moments in microseconds, if they are seconds.
 fn put_microseconds<S: Alter>(
     transaction: &mut Transaction<'_, S>,
     clock: Moment,
@@ -147,6 +148,10 @@ fn put_microseconds<S: Alter>(
     ensures others { OnOk result
         (LeavesOthers S.Store transaction.old.conn.now transaction.new.conn.now) }
     ensures inside { CommitsNothing S.Store transaction.old.conn.now transaction.new.conn.now }
+    ensures why { ChangeIsCaused S.Store transaction.old.conn.now transaction.new.conn.now
+        result 0 (λ records. AreInSeconds clock records × AreShort records.versions) }
+    ensures healthy { StaysHealthy S.Store transaction.old.conn.now transaction.new.conn.now
+        result 0 IsInSeconds }
 {
     move_to_microseconds(transaction, clock.number())?;
     Ok(())
@@ -165,6 +170,10 @@ pub(crate) fn write_move<S: Alter>(
     ensures none { StaysOnErr S.Store connection.old connection.new result }
     ensures usable { IsUsable S.Store connection.new → IsUsable S.Store connection.old }
     ensures mode { connection.new.in_transaction ≡ false }
+    ensures why { CommitIsCaused S.Store connection.old connection.new result 0
+        (λ records. AreInSeconds clock records × AreShort records.versions) }
+    ensures healthy { CommitsHealthyWhere S.Store connection.old connection.new result
+        IsInSeconds }
 {
     // For the proof alone: whether a transaction is open is known by this call.
     let _settled = connection.is_autocommit();

@@ -12,19 +12,19 @@ use std::alloc::Global;
 /// A visitor, which takes version rows one at a time. What it makes of them is its meaning: each
 /// row that it takes leads from one meaning to the next.
 pub trait RowVisitor {
-    /// What it can mean.
+    /// The values of its meaning.
     ghost Meaning: { Type 0 };
 
-    /// What it means.
+    /// The meaning of the rows that it was handed.
     ghost meaning: { Self → Meaning };
 
-    /// What it means with one row more.
+    /// The meaning with one row more.
     ghost next: { Meaning → AnyRow → Meaning };
 
-    /// Which refusals it may answer.
+    /// The refusals that it may answer.
     ghost may_refuse: { AnyRefusal → Type 0 };
 
-    /// The refusal that it has answered: `None` where it has refused no row.
+    /// The refusal that it has answered: `None` if it has refused no row.
     ghost answered: { Self → Option AnyRefusal → Type 0 };
 
     /// Takes a row, or refuses it. A refused row leaves the meaning, and no other follows it.

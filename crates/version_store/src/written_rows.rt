@@ -1,4 +1,4 @@
-//! Rows as a plan's change writes them.
+//! Rows as they are written.
 
 ghost use Rattle.std.specs.Prelude.{◌≡◌, ℕ, ℤ, map, IfErr, IfOk};
 ghost use Rattle.std.specs.List.{All, AllByRecursion};
@@ -10,7 +10,7 @@ ghost use Rattle.version_store.specs.Written.{written_version};
 ghost use Rattle.version_store.specs.declared.fault.StoreFault.TheVariants.{Memory};
 
 use crate::fault::StoreFault;
-use period_core::{Period, PeriodRow, Values, encode_values};
+use period_core::{Period, PeriodRow, Values, VersionRow, encode_values};
 use std::alloc::Global;
 use version_tables::{NewRow, VersionKey};
 
@@ -38,6 +38,19 @@ pub(crate) fn new_row(alloc: Global, row: &PeriodRow) -> Result<NewRow, StoreFau
     ensures end { IfOk result (λ new. new.end ≡ row.now.period.end) }
     ensures held { IfOk result (λ _. All IsColumnValue row.now.values) }
     ensures why { IfErr result (λ fault. fault ≡ Memory) }
+{
+    Ok(NewRow {
+        key: version_key_of(alloc, &row.values, row.period)?,
+        end: i64::from(row.period.end.number()),
+    })
+}
+
+/// A version row as it is added to a copy.
+pub(crate) fn copied_row(alloc: Global, row: &VersionRow) -> Result<NewRow, StoreFault>
+    ensures bytes { IfOk result (λ new. new.key.values.items ≡ encoded row.now.values) }
+    ensures start { IfOk result (λ new. new.key.start ≡ row.now.period.start) }
+    ensures end { IfOk result (λ new. new.end ≡ row.now.period.end) }
+    ensures held { IfOk result (λ _. All IsColumnValue row.now.values) }
 {
     Ok(NewRow {
         key: version_key_of(alloc, &row.values, row.period)?,

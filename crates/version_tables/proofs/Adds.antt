@@ -1,4 +1,4 @@
--- What INSERT of several versions does.
+-- INSERT of several versions adds just these, and fails only for a reason of the database.
 use Rattle.std.proofs.Common.{◌≡◌, inl, inr, ℕ, ◌+◌, ◌+ℤ◌, ◌-ℤ◌, ◌/◌, ◌<◌, ◌≤◌, ◌*◌, zero, suc, ℤ, pos, true, List, [], ◌∷◌, ◌++◌, map, take, drop, length, get_or, append-nil, append_assoc, None, Ok, Err, Result, OnOk, IsTrue, refl, sym, ap, subst, subst₂, ◌∙◌, get_or-drop, drop-drop, arith}
 use Rattle.std.specs.List.{flat_map}
 use Rattle.std.specs.List.Sorted.{IsPermutation}
@@ -60,7 +60,7 @@ use Rattle.version_tables.proofs.Updates.{put_fresh, put_keyed, put_table}
 abbrev pub IsCut : ℕ → Type 0
 IsCut rows = length (batch_terms 3 rows) / 7 ≡ rows
 
--- ---- what the terms give
+-- ---- the values of the terms
 
 module _ (table : ℕ) (from to : ℤ) (params : Row) (table_at : column params 0 ≡ Int (pos table)) (from_at : column params 1 ≡ Int from) (to_at : column params 2 ≡ Int to) where
   gives : (rows : List NewRow) (at : ℕ) → drop at params ≡ flat_map cells rows → value_rows params 7 (length rows) (batch_terms at (length rows)) ≡ map unnumbered (map (new_version table from to) rows)
@@ -82,7 +82,7 @@ module _ (table : ℕ) (from to : ℤ) (params : Row) (table_at : column params 
       let more = gives_numbered (first +ℤ pos 1) rows (at + 4) (sym (drop-drop 4 at params) ∙ ap (drop 4) h) in
       rw (table_at, from_at, to_at, number, values, start, end, more) refl
 
--- ---- what the table makes of that
+-- ---- the row that the table makes of the values
 
 cast_is : (id : Value) (v : Version) → cast Integer id ≡ id → cast_row (version_table 2) (id ∷ stored v) ≡ id ∷ stored v
 cast_is id v same = rw (same, cast_int (pos v.table), cast_int v.start, cast_int v.end, cast_int v.from, cast_int v.to) refl
@@ -230,7 +230,7 @@ module _ (text : List ℕ) (terms : List Term) (params : Row) (laid : List Row) 
     allowed t stop (inr (w, inserts, concludes)) = not_concluded task (mode_of old) w stop (refers w inserts) concludes
 
     pub adds_fails : (new : State) (e : Error) → ExecutesInside 0 text params old new (Err e) → HasReason old new e
-    adds_fails new = fails_inside text params (Insert 2 (Values terms 7)) one is tt old new was.schema allowed
+    adds_fails new = fails_inside text params (Insert 2 (Values terms 7)) (schema_with other_tables) (one other_tables) (is other_tables) tt old new was.schema.schema_is (allowed text)
 
   pub adds_healthy : 0 < length vs → (new : State) (count : ℕ) → Executes text params old new (Ok count) → IsHealthy left new.now × (next_rowid (new.now.trees 2) ≡ new.last_rowid +ℤ pos 1)
   adds_healthy some new count h =

@@ -1,4 +1,5 @@
--- What the database allows of an edit of one of the three tables: the rules of its columns, its size, and the references.
+-- The edits of one of the three tables that the database allows: the rules of its columns, its
+-- size, and the references.
 use Rattle.std.proofs.Common.{◌≡◌, ◌≢◌, ◌∙◌, inl, inr, ℕ, ℤ, pos, negsuc, zero, suc, ◌+◌, ◌^◌, ◌≤◌, ◌<◌, ◌&&◌, ◌||◌, ◌≤ℤ◌, ◌+ℤ◌, List, [], ◌∷◌, length, Bool, true, false, not, Some, None, refl, sym, ap, subst, true≢false, arith, codes}
 use Rattle.std.specs.Prelude.{All, nat_lt}
 use Rattle.std.specs.Float.{NotNan}

@@ -1,4 +1,4 @@
--- Rows of bt_version clash in the index of their key where their versions are of one key.
+-- Rows of bt_version clash in the index of their key if their versions are of one key.
 use Rattle.std.proofs.Common.{◌≡◌, ◌∙◌, ◌&&◌, ◌==◌, ◌∷◌, ◌≤◌, ◌<◌, pos, ℕ, Bool, true, false, not, List, [], Some, map, refl, subst, sym, ap, arith}
 use Rattle.std.specs.List.{AllByRecursion, list_all, list_any}
 use Rattle.std.specs.Cmp.{IsTotalOrder}
@@ -43,7 +43,7 @@ rivals s r = agrees s r && differ (rowid s) (rowid r)
 abbrev pub Apart : List Row → Type 0
 Apart rows = AllByRecursion (λ r. AllByRecursion (λ s. rivals s r ≡ false) rows) rows
 
--- the same of the rows that a query shows
+-- two rows that a query shows alike
 abbrev pub alike : Row → Row → Bool
 alike b a = equal Binary (column b 0) (column a 0) && (equal Binary (column b 1) (column a 1) && (equal Binary (column b 2) (column a 2) && (equal Binary (column b 4) (column a 4) && true)))
 
@@ -54,6 +54,7 @@ four_true true true false d = refl
 four_true true false c d = refl
 four_true false b c d = refl
 
+-- stored versions are alike in the index if they have one key
 pub alike-stored : (k v : Version) → alike (stored v) (stored k) ≡ same_key k v
 unfolding binary
 alike-stored k v =
@@ -70,6 +71,7 @@ reversed Greater = refl
 eq_turned : {K : Type 0} {R : K → K → Ordering} → IsTotalOrder R → (a b : K) → is_eq (R a b) ≡ is_eq (R b a)
 eq_turned {R = R} total a b = ap is_eq (total.antisymm a b) ∙ reversed (R b a)
 
+-- having one key is symmetric
 pub same_key-turned : (k v : Version) → same_key k v ≡ same_key v k
 same_key-turned k v =
     let table : (v.table == k.table) ≡ (k.table == v.table) = sym (pos_eq v.table k.table) ∙ eq_turned int_cmp_total (pos v.table) (pos k.table) ∙ pos_eq k.table v.table in
@@ -158,6 +160,7 @@ shown_alike : (rows : List Row) → IsAscending (λ a b. agrees b a ≡ false) r
 unfolding first_key
 shown_alike rows apart = apart
 
+-- rows that are apart in the index of their key are shown as versions of different keys
 pub shown_differ : (rows shown : List Row) → HaveDistinctRowids rows → AllByRecursion (λ r. is_int (rowid r) ≡ true) rows → Apart rows → IsPermutation shown (map version_shown rows) → IsAscending (λ a b. alike b a ≡ false) shown
 shown_differ rows shown untied ints apart same =
     let back = pull_back version_shown (map version_shown rows) shown (IsPermutation-sym _ _ same) rows refl in
@@ -226,6 +229,7 @@ with_same db tree low rows (t ∷ ts) apart =
 pub database_apart : (db : Database) → HasStoreTables db.schema → IsDatabase db → Apart (db.trees 2)
 database_apart db has sound = unique_rows has.others db.trees (subst (λ s. Keeps Unique s db.trees) has.schema_is (sound.obeys.rules Unique))
 
+-- the versions of a sound database have keys of their own
 pub own_of : (db : Database) (m : Records) → Represents db m → IsDatabase db → HaveOwnKeys m.versions
 own_of db m was sound =
     ascending_weaker (λ (v w : Version). alike (stored w) (stored v) ≡ false) (λ (v w : Version). same_key v w ≡ false) (λ v w other. sym (alike-stored v w) ∙ other) m.versions

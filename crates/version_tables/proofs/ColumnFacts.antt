@@ -1,4 +1,4 @@
--- What the columns of a row say.
+-- The columns of a row: numbers that it holds, and rows that rise by them.
 use Rattle.std.proofs.Common.{◌≡◌, ◌<◌, ap, ℕ, ℤ, pos, negsuc, List, [], ◌∷◌, length, IsTrue, true, false, refl, subst, arith, ◌∙◌, ◌<ℤ◌}
 use Rattle.std.proofs.lemmas.Int.{ints}
 use Rattle.sqlite_value.specs.Order.{column}
@@ -13,6 +13,7 @@ use Rattle.version_tables.specs.Rows.{IsNumberAt, AreBytesAt, Rise}
 use Rattle.version_tables.specs.Forms.{form_number}
 use Rattle.version_tables.specs.declared.form.Form.{Form}
 
+-- anything follows from a falsehood
 pub never : {P : Type 0} → IsTrue false → P
 never h = cc
 
@@ -25,10 +26,11 @@ numbered (Real x ∷ more) h = absurd cc
 numbered (Text t ∷ more) h = absurd cc
 numbered (Blob b ∷ more) h = absurd cc
 
+-- a value is one number alone
 pub same_int : (m n : ℤ) (v : Value) → v ≡ Int m → v ≡ Int n → m ≡ n
 same_int m n v p q = cc
 
--- its integers are those that were read
+-- the integers of a row are those that were read
 pub rise_read : (a b : Row) (low high : ℤ) → IsNumberAt a 0 low → IsNumberAt b 0 high → Rise a b → low <ℤ high
 rise_read a b low high p q h = rw (same_int low h.low _ p.1 h.low_is.1, same_int high h.high _ q.1 h.high_is.1) h.rises
 

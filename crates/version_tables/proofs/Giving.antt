@@ -117,7 +117,7 @@ module _ {S : Type 0} (g : Ghosts S) (table : ℕ) (selection : Selection) (firs
       left = record { clean = λ clean. was.left.clean (still_clean clean); keeps = λ clean. as_it_was (same_so_far clean (same clean)); mode = mode was.left.mode; faults = counted };
     }
 
-    -- what an error leaves
+    -- the database after an error
     keeps : (e : Error) → Fails (state g before) (state g now) ⊥ e ⊎ IsUnchanged (state g before) (state g now) → HasCleanDisk (state g now) → Keeps (state g first) (state g now)
     keeps e (inl failed) clean =
         let so_far = (was.unchanged (still_clean clean)).0 in

@@ -26,7 +26,7 @@ use Rattle.sqlite.proofs.Callers.{IsPlain, command_of, runs_as, statement_of}
 use Rattle.sqlite_rules.specs.Action.{Writes}
 use Rattle.sqlite_rules.specs.Calls.{ids_of}
 use Rattle.sqlite_schema.specs.declared.schema.Keys.{Keys}
-use Rattle.version_tables.specs.Keeping.{KeepsOthers, LeavesOthers, tables_behind}
+use Rattle.version_tables.specs.Keeping.{KeepsOthers, LeavesOthers, following_tables}
 use Rattle.version_tables.specs.Steps.{CommitsNothing}
 use Rattle.version_tables.specs.Tables.{HasStoreTables, IsApart, Others, definition_table, meta_table, schema_with, version_table}
 use Rattle.version_tables.proofs.Apart.{one_step_with}
@@ -38,10 +38,11 @@ rows_then : (tables : List Table) (a b c : Trees) → KeepsRows tables a b → K
 rows_then [] a b c p q = tt
 rows_then (t ∷ more) a b c p q = (q.0 ∙ p.0, rows_then more a b c p.1 q.1)
 
+-- two statements that keep the tables of others keep them together
 pub keeps_then : (a b c : Database) → KeepsOthers a b → KeepsOthers b c → KeepsOthers a c
 keeps_then a b c p q = record {
   schema_is = q.schema_is ∙ p.schema_is;
-  others = rows_then (tables_behind a.schema) a.trees b.trees c.trees p.others (subst (λ s. KeepsRows (tables_behind s) b.trees c.trees) p.schema_is q.others);
+  others = rows_then (following_tables a.schema) a.trees b.trees c.trees p.others (subst (λ s. KeepsRows (following_tables s) b.trees c.trees) p.schema_is q.others);
 }
 
 -- inside a transaction
@@ -55,10 +56,11 @@ same_rows : (tables : List Table) (a : Trees) → KeepsRows tables a a
 same_rows [] a = tt
 same_rows (t ∷ more) a = (refl, same_rows more a)
 
+-- a database that is as it was keeps the tables of others
 pub keeps_same : (a b : Database) → b ≡ a → KeepsOthers a b
-keeps_same a b same = subst (KeepsOthers a) (sym same) (record { schema_is = refl; others = same_rows (tables_behind a.schema) a.trees })
+keeps_same a b same = subst (KeepsOthers a) (sym same) (record { schema_is = refl; others = same_rows (following_tables a.schema) a.trees })
 
--- where nothing is changed
+-- an unchanged database
 pub leaves_same : {S : Type 0} (g : Ghosts S) (a b : Held S) → (state g b).now ≡ (state g a).now → LeavesOthers g a b
 leaves_same g a b same clean has = keeps_same _ _ same
 

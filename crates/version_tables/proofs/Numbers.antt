@@ -104,16 +104,16 @@ push : (rows : List Row) (x : Row) (more : List Row) → (rows ++ x ∷ []) ++ m
 push [] x more = refl
 push (r ∷ rows) x more = ap (λ l. r ∷ l) (push rows x more)
 
-put_behind : (first : ℤ) (vs : List Version) (rows : List Row) → AreKeyed rows → AreBelow first rows → put_all rows (number_from first vs) ≡ rows ++ number_from first vs
-put_behind first [] rows keyed below = (nothing rows)
+put_after : (first : ℤ) (vs : List Version) (rows : List Row) → AreKeyed rows → AreBelow first rows → put_all rows (number_from first vs) ≡ rows ++ number_from first vs
+put_after first [] rows keyed below = (nothing rows)
   where
     nothing : (rows : List Row) → rows ≡ rows ++ []
     nothing [] = refl
     nothing (r ∷ rows) = ap (λ l. r ∷ l) (nothing rows)
-put_behind first (v ∷ vs) rows keyed below =
+put_after first (v ∷ vs) rows keyed below =
     let new : Row = Int first ∷ stored v in
     let one = put_last rows first (stored v) keyed below in
-    put_behind (first +ℤ pos 1) vs (put_row new rows) (all-put_row (λ r. is_int (rowid r) ≡ true) new rows refl keyed) (all_next first new rows refl below)
+    put_after (first +ℤ pos 1) vs (put_row new rows) (all-put_row (λ r. is_int (rowid r) ≡ true) new rows refl keyed) (all_next first new rows refl below)
     ∙ ap (λ l. l ++ number_from (first +ℤ pos 1) vs) one ∙ push rows new (number_from (first +ℤ pos 1) vs)
 
 pub table_put_all : (news rows : List Row) → IsTable rows → IsTable (put_all rows news)
@@ -129,14 +129,14 @@ all-put_all P (r ∷ news) rows new old = all-put_all P news (put_row r rows) ne
 one_further : (first : ℤ) (n : ℕ) → (first +ℤ pos 1) +ℤ pos n ≡ first +ℤ pos (n + 1)
 one_further first n = grind (arith, ints)
 
-pub next_behind : (z first : ℤ) (v : Version) (vs : List Version) → fold (λ _ r. id_in (rowid r) +ℤ pos 1) z (number_from first (v ∷ vs)) ≡ first +ℤ pos (length vs + 1)
-next_behind z first v [] = refl
-next_behind z first v (u ∷ vs) =
+pub next_above : (z first : ℤ) (v : Version) (vs : List Version) → fold (λ _ r. id_in (rowid r) +ℤ pos 1) z (number_from first (v ∷ vs)) ≡ first +ℤ pos (length vs + 1)
+next_above z first v [] = refl
+next_above z first v (u ∷ vs) =
     let n : length vs + 1 + 1 ≡ length (u ∷ vs) + 1 = omega arith in
-    next_behind (first +ℤ pos 1) (first +ℤ pos 1) u vs ∙ one_further first (length vs + 1) ∙ ap (λ k. first +ℤ pos k) n
+    next_above (first +ℤ pos 1) (first +ℤ pos 1) u vs ∙ one_further first (length vs + 1) ∙ ap (λ k. first +ℤ pos k) n
 
-last_behind : (a b : Row) (more : List Row) → last_id (a ∷ b ∷ more) ≡ last_id (b ∷ more)
-last_behind a b more =
+last_after : (a b : Row) (more : List Row) → last_id (a ∷ b ∷ more) ≡ last_id (b ∷ more)
+last_after a b more =
     let n = length more in
     let long : length (a ∷ b ∷ more) - 1 ≡ suc n = omega arith in
     let short : length (b ∷ more) - 1 ≡ n = omega arith in
@@ -146,7 +146,7 @@ pub last_number : (first : ℤ) (v : Version) (vs : List Version) → last_id (n
 last_number first v [] = let e : first +ℤ pos 0 ≡ first = grind (arith, ints) in rw e refl
 last_number first v (u ∷ vs) =
     let n : length vs + 1 ≡ length (u ∷ vs) = omega arith in
-    last_behind (Int first ∷ stored v) (Int (first +ℤ pos 1) ∷ stored u) (number_from ((first +ℤ pos 1) +ℤ pos 1) vs) ∙ last_number (first +ℤ pos 1) u vs
+    last_after (Int first ∷ stored v) (Int (first +ℤ pos 1) ∷ stored u) (number_from ((first +ℤ pos 1) +ℤ pos 1) vs) ∙ last_number (first +ℤ pos 1) u vs
     ∙ ap Some (one_further first (length vs) ∙ ap (λ k. first +ℤ pos k) n)
 
 -- ---- there is room
@@ -178,7 +178,7 @@ next_and_last first rows [] some keyed below = absurd (omega (arith, some))
 next_and_last first rows (v ∷ vs) some keyed below = (
   first +ℤ pos (length vs),
   last_number first v vs,
-  ap next_rowid (put_behind first (v ∷ vs) rows keyed below) ∙ fold-append (λ _ r. id_in (rowid r) +ℤ pos 1) (pos 1) rows (number_from first (v ∷ vs)) ∙ next_behind (next_rowid rows) first v vs ∙ further first (length vs),
+  ap next_rowid (put_after first (v ∷ vs) rows keyed below) ∙ fold-append (λ _ r. id_in (rowid r) +ℤ pos 1) (pos 1) rows (number_from first (v ∷ vs)) ∙ next_above (next_rowid rows) first v vs ∙ further first (length vs),
 )
   where
     further : (n : ℤ) (k : ℕ) → n +ℤ pos (k + 1) ≡ (n +ℤ pos k) +ℤ pos 1

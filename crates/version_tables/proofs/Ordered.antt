@@ -28,6 +28,7 @@ all_by_place P d (x ∷ xs) h = (h 0 (omega arith), all_by_place P d xs (λ k lo
 
 -- ---- definitions
 
+-- the rows of definitions are as many as the definitions
 pub length-defined : (n : ℕ) (ds : List (List ℕ)) → length (defined n ds) ≡ length ds
 length-defined n [] = refl
 length-defined n (d ∷ ds) = ap suc (length-defined (n + 1) ds)
@@ -39,6 +40,7 @@ defined_later : (m n : ℕ) (ds : List (List ℕ)) → m < n → AllByRecursion 
 defined_later m n [] h = tt
 defined_later m n (d ∷ ds) h = (value_cmp-Int (pos m) (pos n) ∙ int_below m n h, defined_later m (n + 1) ds (omega arith))
 
+-- the rows of definitions are in the order of their rowids
 pub defined_table : (n : ℕ) (ds : List (List ℕ)) → IsTable (defined n ds)
 defined_table n [] = tt
 defined_table n (d ∷ ds) = (defined_later n (n + 1) ds (omega arith), defined_table (n + 1) ds)
@@ -61,6 +63,7 @@ same_heads x y (inl e) q = sym e
 same_heads x y (inr below) (inl e) = e
 same_heads x y (inr below) (inr above) = absurd (not_both x y below above)
 
+-- two tables of the same rows, each in the order of its rowids, are one
 pub same_tables : (xs ys : List Row) → IsTable xs → IsTable ys → IsPermutation xs ys → xs ≡ ys
 same_tables [] [] p q h = refl
 same_tables [] (y ∷ ys) p q h = absurd (let e = length_permutation _ _ h in omega arith)
@@ -103,6 +106,7 @@ sorted_table (x ∷ y ∷ xs) s u =
 table_untied : (xs : List Row) → IsTable xs → HaveDistinctRowids xs
 table_untied xs = ascending_weaker (λ a b. by_rowid a b ≡ Less) (λ a b. same_rowid a b ≡ false) (λ a b below. ap is_eq below) xs
 
+-- the query for definitions gives them in the order of their numbers
 pub definitions_in_order : (tree tables : List Row) (ds : List (List ℕ)) → InOrder table_shown by_rowid tree tables → IsPermutation (defined 1 ds) (map table_shown tree) → tables ≡ defined 1 ds
 definitions_in_order tree tables ds order says =
     let to = order.0 in
@@ -129,6 +133,7 @@ rising_table (x ∷ y ∷ rows) up =
     let first : by_rowid x y ≡ Less = rises_by x y (up 0 (omega arith)) in
     ((first, all_weaker (λ r. by_rowid y r ≡ Less) (λ r. by_rowid x r ≡ Less) (λ r below. value_cmp_total.trans _ _ _ first below) rows rest.0), rest)
 
+-- a tree whose rowids are shown as rising numbers has distinct whole numbers for rowids
 pub own_rowids : (tree ids : List Row) → IsPermutation (map rowid_shown tree) ids → AreNumbered ids → AreRising ids → HaveDistinctRowids tree × AllByRecursion (λ r. is_int (rowid r) ≡ true) tree
 own_rowids tree ids same ints up =
     let back = IsPermutation-sym _ _ same in (
@@ -166,6 +171,7 @@ rising_shown (x ∷ y ∷ rows) up ints (suc k) low =
     let next : suc (k + 1) ≡ suc k + 1 = omega arith in
     subst (λ (n : ℕ). Rise (get_or (map rowid_shown (y ∷ rows)) k []) (get_or (map rowid_shown (x ∷ y ∷ rows)) n [])) next (rising_shown (y ∷ rows) up.1 ints.1 k (omega (arith, low)))
 
+-- the query for rowids gives rising numbers, if they are distinct whole numbers
 pub rowids_rise : (tree ids : List Row) → InOrder rowid_shown by_rowid tree ids → HaveDistinctRowids tree → AllByRecursion (λ r. is_int (rowid r) ≡ true) tree → AreNumbered ids × AreRising ids
 rowids_rise tree ids order untied keyed =
     let to = order.0 in

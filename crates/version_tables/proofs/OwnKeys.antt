@@ -18,6 +18,7 @@ use Rattle.version_tables.specs.Represents.{Records, Version, all_added, same_ke
 use Rattle.version_tables.proofs.Clashes.{same_key-turned}
 use Rattle.version_tables.proofs.Numbers.{less_room}
 
+-- versions with keys of their own have them in any order
 pub own_along : (xs ys : List Version) → IsPermutation xs ys → HaveOwnKeys xs → HaveOwnKeys ys
 own_along xs ys h =
     (along_permutation (λ xs ys. IsPermutation xs ys × (HaveOwnKeys xs → HaveOwnKeys ys))
@@ -26,9 +27,9 @@ own_along xs ys h =
     (λ x y xs. (IsPermutation-middle (x ∷ []) y xs, λ u. ((same_key-turned y x ∙ u.0.0, u.1.0), (u.0.1, u.1.1))))
     (λ xs ys zs p q. (IsPermutation-trans xs ys zs p.0 q.0, λ u. q.1 (p.1 u))) xs ys h).1
 
-pub own_behind : (xs ys : List Version) → HaveOwnKeys (xs ++ ys) → HaveOwnKeys ys
-own_behind [] ys own = own
-own_behind (x ∷ xs) ys own = own_behind xs ys own.1
+pub own_after : (xs ys : List Version) → HaveOwnKeys (xs ++ ys) → HaveOwnKeys ys
+own_after [] ys own = own
+own_after (x ∷ xs) ys own = own_after xs ys own.1
 
 swapped : (xs ys zs : List Version) → IsPermutation (xs ++ (ys ++ zs)) (ys ++ (xs ++ zs))
 swapped xs ys zs = subst (λ l. IsPermutation l (ys ++ (xs ++ zs))) (append_assoc xs ys zs) (subst (IsPermutation ((xs ++ ys) ++ zs)) (append_assoc ys xs zs) (IsPermutation-append_left zs (xs ++ ys) (ys ++ xs) (IsPermutation-append_comm xs ys)))
@@ -50,15 +51,18 @@ module _ {X : Type 0} (f : X → Version) (done batch more : List X) (m : Record
       (IsPermutation-trans _ _ _ (IsPermutation-append_right (map f batch) _ _ (swapped (map f done) (map f more) m.versions)) (swapped (map f batch) (map f more) (map f done ++ m.versions))) in
       record {
         short = (short_part (map f batch) (map f more) (short_part (map f done) _ all).1).0;
-        own = own_behind (map f more) (map f batch ++ (map f done ++ m.versions)) (own_along _ _ moved own);
+        own = own_after (map f more) (map f batch ++ (map f done ++ m.versions)) (own_along _ _ moved own);
       }
 
+-- a database that is healthy for many more versions is so for fewer
 pub healthy_less : (few many : ℕ) (db : Database) → few ≤ many → IsHealthy many db → IsHealthy few db
 healthy_less few many db less healthy = record { sound = healthy.sound; bare = healthy.bare; room = less_room few many (db.trees 2) less healthy.room }
 
+-- a database has the same room if none of it is used
 pub healthy_still : (left : ℕ) (db : Database) → IsHealthy (0 + left) db → IsHealthy left db
 healthy_still left db = healthy_less left (0 + left) db (omega arith)
 
+-- a database with room has it with none more
 pub healthy_none : (left : ℕ) (db : Database) → IsHealthy left db → IsHealthy (0 + left) db
 healthy_none left db = healthy_less (0 + left) left db (omega arith)
 
@@ -88,6 +92,7 @@ none_other : (k v : Version) → same_key k v ≡ true → (vs : List Version) �
 none_other k v same [] apart = refl
 none_other k v same (w ∷ vs) apart = let one = key_same k v w same ∙ apart.0 in rw one (none_other k v same vs apart.1)
 
+-- at most one of such versions has a given key
 pub one_of_key : (k : Version) (vs : List Version) → HaveOwnKeys vs → length (filter (same_key k) vs) ≤ 1
 one_of_key k [] own = omega arith
 one_of_key k (v ∷ vs) own = go (same_key k v) refl (one_of_key k vs own.1)

@@ -1,4 +1,4 @@
--- Where a table stands that is made behind others.
+-- The place of a table that is made after the tables of others.
 use Rattle.std.proofs.Common.{◌≡◌, ℕ, zero, suc, ◌+◌, ◌++◌, ◌||◌, ◌&&◌, not, length, List, [], ◌∷◌, cond, codes, Bool, true, false, Some, None, true≢false, inl, inr, refl, sym, ap, ◌∙◌, arith}
 use Rattle.std.specs.Prelude.{Option, is_some, option_and_then, slice_get}
 use Rattle.std.specs.List.{AllByRecursion, list_any, position_from}
@@ -34,9 +34,9 @@ place_behind p i (x ∷ xs) y ys none here = go (p x) none (place_behind p (i + 
     go true none more = absurd (true≢false none)
     go false none more = let e : length xs + (i + 1) ≡ length (x ∷ xs) + i = omega arith in more none here ∙ ap Some e
 
-pub item_behind : {A : Type 0} (xs : List A) (y : A) (ys : List A) → slice_get (xs ++ y ∷ ys) (length xs) ≡ Some y
-item_behind [] y ys = refl
-item_behind (x ∷ xs) y ys = item_behind xs y ys
+pub item_after : {A : Type 0} (xs : List A) (y : A) (ys : List A) → slice_get (xs ++ y ∷ ys) (length xs) ≡ Some y
+item_after [] y ys = refl
+item_after (x ∷ xs) y ys = item_after xs y ys
 
 -- ---- a table more that counts nothing wants no counter
 
@@ -65,7 +65,7 @@ counters_more s t none has = go (list_any (λ (u : Table). u.is_counted) s.table
     go true more true is h = let kept : is_some (sequence (created s t)) ≡ true = kept_by s.tables _ (position_from is_sequence 0 s.tables) refl is in rw (more, kept) refl
     go true more false is h = absurd (true≢false h)
 
--- ---- what holds of each table
+-- ---- facts of each table
 
 pub all_have : {A : Type 0} (P : A → Type 0) (xs : List A) → ((x : A) → Has xs x → P x) → AllByRecursion P xs
 all_have P [] each = tt

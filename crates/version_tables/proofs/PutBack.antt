@@ -66,15 +66,16 @@ all_mapped P f (x ∷ xs) all = (all.0, all_mapped P f xs all.1)
 
 -- ---- a row of bt_version shows a version
 
-abbrev ShowsOne : Row → Type 0
-ShowsOne b = (v : Version) × (b ≡ stored v)
+-- of which P holds
+abbrev ShowsOne : (Version → Type 0) → Row → Type 0
+ShowsOne P b = (v : Version) × (b ≡ stored v) × P v
 
-show_one : (vs : List Version) → AllByRecursion ShowsOne (map stored vs)
-show_one [] = tt
-show_one (v ∷ vs) = ((v, refl), show_one vs)
+show_one : (P : Version → Type 0) (vs : List Version) → AllByRecursion P vs → AllByRecursion (ShowsOne P) (map stored vs)
+show_one P [] all = tt
+show_one P (v ∷ vs) all = ((v, refl, all.0), show_one P vs all.1)
 
-pub rows_show : (db : Database) (m : Records) → Represents db m → AllByRecursion (λ r. ShowsOne (version_shown r)) (db.trees 2)
-rows_show db m was = all_from_map ShowsOne version_shown (db.trees 2) (all-permutation ShowsOne _ _ was.says.versions (show_one m.versions))
+pub rows_show : (P : Version → Type 0) (db : Database) (m : Records) → AllByRecursion P m.versions → Represents db m → AllByRecursion (λ r. ShowsOne P (version_shown r)) (db.trees 2)
+rows_show P db m all was = all_from_map (ShowsOne P) version_shown (db.trees 2) (all-permutation (ShowsOne P) _ _ was.says.versions (show_one P m.versions all))
 
 -- ---- rows that are put back under their rowids
 
@@ -104,7 +105,7 @@ module _ (rows : List Row) (untied : HaveDistinctRowids rows) (keyed : AllByRecu
       IsPermutation-trans _ _ _ parts (subst (IsPermutation _) (sym (map-append rowid_shown news left)) (IsPermutation-append _ _ _ _ new stays)) in
       fresh_by news left (ascending_from_map (λ a b. same_rowid a b ≡ false) rowid_shown (news ++ left) (untied_along _ _ all apart))
 
-  -- what holds of the rowids holds of those that are put back
+  -- a fact of the rowids is one of those that are put back
   all_back : (Q : ℤ → Type 0) → AllByRecursion (λ r. Q (rid r)) rows → AllByRecursion (λ r. Q (rid r)) (put_all left news)
   all_back Q all =
       let each : AllByRecursion (λ r. Q (rid (again_of r))) (filter taken rows) =
@@ -125,18 +126,18 @@ module _ (rows : List Row) (untied : HaveDistinctRowids rows) (keyed : AllByRecu
     few = room.few;
   }
 
-  pub own_back : (f : Version → Version) → ((v : Version) → body (stored v) ≡ stored (f v)) → (count : ℕ) → HaveRoomFor count rows → AllByRecursion (λ r. ShowsOne (version_shown r)) rows
-      → ((r : Row) (v : Version) → taken r ≡ true → version_shown r ≡ stored v → IsShort (f v).values) → AllByRecursion IsOwnRow news
-  own_back f body-stored count room show short =
+  pub own_back : (P : Version → Type 0) (f : Version → Version) → ((v : Version) → P v → body (stored v) ≡ stored (f v)) → (count : ℕ) → HaveRoomFor count rows → AllByRecursion (λ r. ShowsOne P (version_shown r)) rows
+      → ((r : Row) (v : Version) → P v → taken r ≡ true → version_shown r ≡ stored v → IsShort (f v).values) → AllByRecursion IsOwnRow news
+  own_back P f body-stored count room show short =
       let ids = all_both (λ r. is_int (rowid r) ≡ true) (λ r. least_integer ≤ℤ rid r) (λ r. (is_int (rowid r) ≡ true) × (least_integer ≤ℤ rid r)) (λ r int low. (int, low)) rows keyed room.low in
       let fits = all_both (λ r. (is_int (rowid r) ≡ true) × (least_integer ≤ℤ rid r)) (λ r. (rid r +ℤ pos count) ≤ℤ greatest_integer) (λ r. (is_int (rowid r) ≡ true) × (fits_i64 (rid r) ≡ true)) (λ r it high. (it.0, fits_64 (rid r) it.1 (below (rid r) count high))) rows ids room.high in
-      let both = all_both (λ r. (is_int (rowid r) ≡ true) × (fits_i64 (rid r) ≡ true)) (λ r. ShowsOne (version_shown r)) (λ r. ((is_int (rowid r) ≡ true) × (fits_i64 (rid r) ≡ true)) × ShowsOne (version_shown r)) (λ r it one. (it, one)) rows fits show in
+      let both = all_both (λ r. (is_int (rowid r) ≡ true) × (fits_i64 (rid r) ≡ true)) (λ r. ShowsOne P (version_shown r)) (λ r. ((is_int (rowid r) ≡ true) × (fits_i64 (rid r) ≡ true)) × ShowsOne P (version_shown r)) (λ r it one. (it, one)) rows fits show in
       all-permutation IsOwnRow _ _ back (all_mapped IsOwnRow again_of (filter taken rows)
-      (all_both (λ r. taken r ≡ true) (λ r. ((is_int (rowid r) ≡ true) × (fits_i64 (rid r) ≡ true)) × ShowsOne (version_shown r)) (λ r. IsOwnRow (again_of r)) (λ r is it. own r is it.0.0 it.0.1 it.1.0 it.1.1) (filter taken rows) (all_true taken rows) (all-filter _ taken rows both)))
+      (all_both (λ r. taken r ≡ true) (λ r. ((is_int (rowid r) ≡ true) × (fits_i64 (rid r) ≡ true)) × ShowsOne P (version_shown r)) (λ r. IsOwnRow (again_of r)) (λ r is it. own r is it.0.0 it.0.1 it.1.0 it.1.1 it.1.2) (filter taken rows) (all_true taken rows) (all-filter _ taken rows both)))
     where
       below : (n : ℤ) (k : ℕ) → (n +ℤ pos k) ≤ℤ greatest_integer → n ≤ℤ greatest_integer
       below n k h = omega (arith, ints, h)
 
-      own : (r : Row) → taken r ≡ true → is_int (rowid r) ≡ true → fits_i64 (rid r) ≡ true → (v : Version) → version_shown r ≡ stored v → IsOwnRow (again_of r)
-      own r is int fit v shows =
-          (rid r, f v, ap (λ c. c ∷ body (version_shown r)) (same_id r int ∙ int_is (rowid r) int) ∙ ap (λ b. Int (rid r) ∷ body b) shows ∙ ap (λ b. Int (rid r) ∷ b) (body-stored v), short r v is shows, fit)
+      own : (r : Row) → taken r ≡ true → is_int (rowid r) ≡ true → fits_i64 (rid r) ≡ true → (v : Version) → version_shown r ≡ stored v → P v → IsOwnRow (again_of r)
+      own r is int fit v shows holds =
+          (rid r, f v, ap (λ c. c ∷ body (version_shown r)) (same_id r int ∙ int_is (rowid r) int) ∙ ap (λ b. Int (rid r) ∷ body b) shows ∙ ap (λ b. Int (rid r) ∷ b) (body-stored v holds), short r v holds is shows, fit)

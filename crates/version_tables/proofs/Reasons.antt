@@ -1,4 +1,4 @@
--- Why a text of the store fails where the three tables are there.
+-- Why a text of the store fails if the three tables are there.
 use Rattle.std.proofs.Common.{◌≡◌, ◌∙◌, inl, inr, ℕ, List, [], ◌∷◌, true, false, codes, Ok, Err, Result, IfErr, refl, sym, ap, subst, subst₂, append-nil, length, true≢false, arith}
 use Rattle.std.specs.Prelude.{nat_le, Vec}
 use Rattle.std.specs.declared.alloc.Global.{Global}
@@ -9,6 +9,7 @@ use Rattle.sqlite.specs.Effect.{RefusesToRead}
 use Rattle.sqlite.specs.Command.TheVariants.{Select}
 use Rattle.sqlite.specs.Query.{Query}
 use Rattle.sqlite.specs.Listing.{understood, reads_listing, IsSourceOf}
+use Rattle.sqlite.specs.Schema.{Schema}
 use Rattle.sqlite.specs.State.{State, Fails, FailsToQuery, HasCause, IsNoStatement, IsNotRun, Survives, store_error}
 use Rattle.sqlite.specs.Tree.{Trees}
 use Rattle.sqlite.specs.declared.error.Error.{Error}
@@ -69,7 +70,7 @@ rowid_one : (others : Others) → IsOne rowids_text 0 (understood (schema_with o
 unfolding understood everything
 rowid_one others = (refl, refl)
 
--- ---- it is typed, and sums nothing
+-- ---- the query is typed, and sums nothing
 
 select_typed : (table : ℕ) (selection : Selection) (others : Others) → accepts_program (schema_with others) [] (select_query selection) (select_given table selection) ≡ true
 select_typed table Whole others = refl
@@ -103,19 +104,18 @@ module _ (old new : State) where
   pub keeps_faults : {P : Trees → Type 0} → Survives old new P → KeepsFaults old new
   keeps_faults s = record { faults = s.counts; limit = s.limit }
 
--- the text is one of the store's
-module _ (text : List ℕ) (params : Row) (one : (others : Others) → IsOne text (length params) (understood (schema_with others) text)) (plain : (others : Others) → IsPlain (understood (schema_with others) text))
-    (s : State) (has : HasStoreTables s.now.schema) where
-  pub known : (r : Result Compiled CompileError) → understood s.now.schema text ≡ r → understood (schema_with has.others) text ≡ r
-  known r is = ap (λ schema. understood schema text) (sym has.schema_is) ∙ is
+-- the text is one statement over a schema
+module _ (text : List ℕ) (params : Row) (schema : Schema) (one : IsOne text (length params) (understood schema text)) (plain : IsPlain (understood schema text)) (s : State) (has : s.now.schema ≡ schema) where
+  pub known : (r : Result Compiled CompileError) → understood s.now.schema text ≡ r → understood schema text ≡ r
+  known r is = ap (λ schema. understood schema text) (sym has) ∙ is
 
   pub not_refused : (e : Error) → IsNoStatement s text params e → ⊥
-  not_refused e (inl (fault, is, _)) = subst (IsOne text (length params)) (known (Err fault) is) (one has.others)
+  not_refused e (inl (fault, is, _)) = subst (IsOne text (length params)) (known (Err fault) is) one
   not_refused e (inr (c, is, inl (long, _))) =
-      let fits = (subst (IsOne text (length params)) (known (Ok c) is) (one has.others)).0 in
+      let fits = (subst (IsOne text (length params)) (known (Ok c) is) one).0 in
       long (grind (arith, nat_tests, fits))
-  not_refused e (inr (c, is, inr (inl (other, _)))) = other (subst (IsOne text (length params)) (known (Ok c) is) (one has.others)).1
-  not_refused e (inr (c, is, inr (inr (clock, _)))) = clock (subst IsPlain (known (Ok c) is) (plain has.others)).1
+  not_refused e (inr (c, is, inr (inl (other, _)))) = other (subst (IsOne text (length params)) (known (Ok c) is) one).1
+  not_refused e (inr (c, is, inr (inr (clock, _)))) = clock (subst IsPlain (known (Ok c) is) plain).1
 
 -- and a query
 module _ (text : List ℕ) (query : Query) (names : List (List ℕ)) (params : Row) (one : (others : Others) → IsOne text (length params) (understood (schema_with others) text))
@@ -128,10 +128,10 @@ module _ (text : List ℕ) (query : Query) (names : List (List ℕ)) (params : R
 
   pub fails_with_reason : (e : Error) → FailsToQuery text params old new e → HasReason old new e
   unfolding FailsToQuery IsNotRun
-  fails_with_reason e (inl (inl refused)) = absurd (not_refused text params one (λ others. (asks others).2) old has e refused.0)
+  fails_with_reason e (inl (inl refused)) = absurd (not_refused text params (schema_with has.others) (one has.others) (asks has.others).2 old has.schema_is e refused.0)
   fails_with_reason e (inl (inr failed)) = by_failure old new ⊥ (λ none. none) e failed
   fails_with_reason e (inr h) =
-      let is = known text params one (λ others. (asks others).2) old has (Ok h.0) h.1.is in
+      let is = known text params (schema_with has.others) (one has.others) (asks has.others).2 old has.schema_is (Ok h.0) h.1.is in
       let it = asks has.others in
       let bare = subst IsPlain is it.2 in
       let read = rw (bare.0, bare.1, append-nil params) at h.2 in

@@ -1,15 +1,16 @@
--- Why a statement that writes rows fails inside a transaction: it is out of memory, or there was a fault, where the
+-- Why a statement that writes rows fails inside a transaction: it is out of memory, or there was a fault, if the
 -- database allows what it writes.
-use Rattle.std.proofs.Common.{◌≡◌, ◌∙◌, inl, inr, ℕ, suc, zero, ◌<◌, List, [], ◌∷◌, length, Bool, true, false, Option, Some, None, Ok, Err, Result, IfErr, OnOk, refl, sym, ap, subst, append-nil, length-append, arith, true≢false}
+use Rattle.std.proofs.Common.{◌≡◌, ◌∙◌, inl, inr, ℕ, suc, zero, ◌<◌, List, [], ◌∷◌, length, Bool, true, false, Option, Some, None, Ok, Err, Result, IfErr, OnOk, refl, sym, ap, subst, subst₂, append-nil, length-append, arith, true≢false}
 use Rattle.std.specs.Prelude.{IsSome, if◌then◌else◌}
 use Rattle.std.specs.List.{AllByRecursion}
 use Rattle.sqlite.specs.Command.{Command}
-use Rattle.sqlite.specs.Command.TheVariants.{Insert, Update, Delete}
+use Rattle.sqlite.specs.Command.TheVariants.{CreateTable, Insert, Update, Delete}
 use Rattle.sqlite.specs.Does.{Concludes, Does, due}
 use Rattle.sqlite.specs.Edit.{edit_of}
 use Rattle.sqlite.specs.Effect.{Answers, Database, IsSource, RefusesQuery, RefusesSource, is_query}
 use Rattle.sqlite.specs.Listing.{understood}
 use Rattle.sqlite.specs.Order.{Row}
+use Rattle.sqlite.specs.Schema.{Schema}
 use Rattle.sqlite.specs.Rowids.TheVariants.{Above, Chosen, Given}
 use Rattle.sqlite.specs.Rows.{Deletes, Edited, Inserts, Task, Updates, Written, count_of, rowids_for, stamped}
 use Rattle.sqlite.specs.Source.{Source}
@@ -22,7 +23,7 @@ use Rattle.sqlite_rules.specs.Calls.{ids_of}
 use Rattle.sqlite_schema.specs.declared.program.Program.{Program}
 use Rattle.sqlite.specs.declared.error.Error.{Error}
 use Rattle.sqlite.specs.declared.run.Mode.{Mode}
-use Rattle.sqlite.proofs.Callers.{IsPlain, command_of}
+use Rattle.sqlite.proofs.Callers.{IsPlain, command_of, statement_of}
 use Rattle.sqlite_resolve.specs.declared.compiled.Compiled.{Compiled}
 use Rattle.sqlite_rules.specs.Action.{Leads}
 use Rattle.sqlite_rules.specs.Edit.{Edit, IsOversized, IsRefused, taken_by}
@@ -33,62 +34,65 @@ use Rattle.sqlite_sql.specs.Term.{Term}
 use Rattle.sqlite_typing.specs.Types.{accepts_program, accepts_terms}
 use Rattle.sqlite_schema.specs.declared.schema.Keys.{Keys}
 use Rattle.version_tables.specs.Steps.{HasReason}
-use Rattle.version_tables.specs.Tables.{HasStoreTables, IsApart, Others, schema_with}
+use Rattle.version_tables.specs.Tables.{IsApart, Others, schema_with}
 use Rattle.version_tables.proofs.Apart.{no_works}
 use Rattle.version_tables.proofs.Reasons.{IsOne, NeverOverflows, by_failure, known, not_refused}
 
--- ---- a command on rows is run where it stands
+-- ---- a command that changes the database is run where it stands
 
-abbrev pub IsOnRows : Command → Type 0
-IsOnRows (Insert at from) = Unit {0}
-IsOnRows (Update at q) = Unit {0}
-IsOnRows (Delete at q) = Unit {0}
-IsOnRows _ = ⊥
+abbrev pub IsChange : Command → Type 0
+IsChange (Insert at from) = Unit {0}
+IsChange (Update at q) = Unit {0}
+IsChange (Delete at q) = Unit {0}
+IsChange CreateTable = Unit {0}
+IsChange _ = ⊥
 
-runs_quiet : (k : Command) → IsOnRows k → (is_query k ≡ false) × (is_pragma k ≡ false)
+runs_quiet : (k : Command) → IsChange k → (is_query k ≡ false) × (is_pragma k ≡ false)
 runs_quiet (Insert at from) on = (refl, refl)
 runs_quiet (Update at q) on = (refl, refl)
 runs_quiet (Delete at q) on = (refl, refl)
+runs_quiet CreateTable on = (refl, refl)
 runs_quiet _ on = absurd on
 
-not_misplaced : (s : State) (k : Command) (e : Error) → IsOnRows k → IsMisplaced s k e → ⊥
-not_misplaced s k e on (inl (_, inl (is, _))) = subst IsOnRows is on
-not_misplaced s k e on (inl (_, inr (inl is, _))) = subst IsOnRows is on
-not_misplaced s k e on (inl (_, inr (inr is, _))) = subst IsOnRows is on
-not_misplaced s k e on (inr (_, name, inl is, _)) = subst IsOnRows is on
-not_misplaced s k e on (inr (_, name, inr is, _)) = subst IsOnRows is on
+not_misplaced : (s : State) (k : Command) (e : Error) → IsChange k → IsMisplaced s k e → ⊥
+not_misplaced s k e on (inl (_, inl (is, _))) = subst IsChange is on
+not_misplaced s k e on (inl (_, inr (inl is, _))) = subst IsChange is on
+not_misplaced s k e on (inl (_, inr (inr is, _))) = subst IsChange is on
+not_misplaced s k e on (inr (_, name, inl is, _)) = subst IsChange is on
+not_misplaced s k e on (inr (_, name, inr is, _)) = subst IsChange is on
 
-stays_inside : (s : State) (k : Command) → IsOnRows k → Escapes 0 s k → ⊥
-stays_inside s k on (inl (inl is)) = subst IsOnRows is on
-stays_inside s k on (inl (inr is)) = subst IsOnRows is on
-stays_inside s k on (inr (name, inl is, _)) = subst IsOnRows is on
-stays_inside s k on (inr (name, inr is, _)) = subst IsOnRows is on
+stays_inside : (s : State) (k : Command) → IsChange k → Escapes 0 s k → ⊥
+stays_inside s k on (inl (inl is)) = subst IsChange is on
+stays_inside s k on (inl (inr is)) = subst IsChange is on
+stays_inside s k on (inr (name, inl is, _)) = subst IsChange is on
+stays_inside s k on (inr (name, inr is, _)) = subst IsChange is on
 
-module _ (text : List ℕ) (params : Row) (command : Command) (one : (others : Others) → IsOne text (length params) (understood (schema_with others) text))
-    (is : (others : Others) → (command_of (understood (schema_with others) text) ≡ command) × IsPlain (understood (schema_with others) text)) (on : IsOnRows command) (old new : State) (has : HasStoreTables old.now.schema) where
+module _ (text : List ℕ) (params : Row) (command : Command) (schema : Schema) (one : IsOne text (length params) (understood schema text)) (is : (command_of (understood schema text) ≡ command) × IsPlain (understood schema text)) (on : IsChange command)
+    (old new : State) (has : old.now.schema ≡ schema) where
   -- without a limit on steps it is not refused, and what it writes can be stored
   abbrev pub IsAllowed : Type 0
-  IsAllowed = (t : List ℕ) (stop : Option Error) → Does None (mode_of old) params (record old.now { schema = schema_with has.others }) t None command (Err stop) → ⊥
+  IsAllowed = (stop : Option Error) → Does None (mode_of old) params (record old.now { schema = schema }) (statement_of text (understood schema text)) None command (Err stop) → ⊥
 
   its : (c : Compiled) → understood old.now.schema text ≡ Ok c → c.command ≡ command
-  its c so = sym (ap command_of (known text params one (λ others. (is others).1) old has (Ok c) so)) ∙ (is has.others).0
+  its c so = sym (ap command_of (known text params schema one is.1 old has (Ok c) so)) ∙ is.0
 
   module _ (unlimited : old.step_limit ≡ None) (allowed : IsAllowed) where
     never : (c : Compiled) → understood old.now.schema text ≡ Ok c → (stop : Option Error) (now : ℕ) → Does old.step_limit (mode_of old) (timed params c.formats now) old.now (text_of text c) c.returning c.command (Err stop) → ⊥
     never c so stop now does =
-        let bare = subst IsPlain (known text params one (λ others. (is others).1) old has (Ok c) so) (is has.others).1 in
+        let means = known text params schema one is.1 old has (Ok c) so in
+        let bare = subst IsPlain means is.1 in
         let it = rw (bare.0, bare.1, append-nil params, its c so, unlimited) at does in
-        allowed (text_of text c) stop (subst (λ s. Does None (mode_of old) params (record old.now { schema = s }) (text_of text c) None command (Err stop)) has.schema_is it)
+        allowed stop (subst₂ (λ s t. Does None (mode_of old) params (record old.now { schema = s }) t None command (Err stop)) has (sym (ap (statement_of text) means)) it)
 
     alone : (c : Compiled) (it : IsStatement old text params c) (e : Error) → RunsAlone false old new text c (timed params c.formats it.now) (Err e) → HasReason old new e
     alone c it e h =
-        let bare = subst IsPlain (known text params one (λ others. (is others).1) old has (Ok c) it.is) (is has.others).1 in
+        let bare = subst IsPlain (known text params schema one is.1 old has (Ok c) it.is) is.1 in
         let quiet = runs_quiet command on in
         let command_is = its c it.is in
         let shows : shows_rows false c ≡ false = rw (command_is, bare.0, quiet.0, quiet.1) refl in
         elim (rw shows at h) [
           | inl refused ↦ elim refused.0 [
-            | inl misplaced ↦ absurd (not_misplaced old c.command e (subst IsOnRows (sym command_is) on) misplaced)
+            | inl misplaced ↦ absurd (not_misplaced old c.command e (subst IsChange (sym command_is) on) misplaced)
             | inr does ↦ absurd (never c it.is (Some e) it.now does.1)
           ]
           | inr failed ↦ by_failure old new _ (never c it.is None it.now) e failed
@@ -96,10 +100,10 @@ module _ (text : List ℕ) (params : Row) (command : Command) (one : (others : O
 
     fails_unlimited : (e : Error) → ExecutesInside 0 text params old new (Err e) → HasReason old new e
     unfolding ExecutesIn IsNotRun EndsScope
-    fails_unlimited e (inl (inl (inl refused), _)) = absurd (not_refused text params one (λ others. (is others).1) old has e refused.0)
+    fails_unlimited e (inl (inl (inl refused), _)) = absurd (not_refused text params schema one is.1 old has e refused.0)
     fails_unlimited e (inl (inl (inr failed), _)) = by_failure old new ⊥ (λ none. none) e failed
     fails_unlimited e (inl (inr (c, it, ran), _)) = alone c it e ran
-    fails_unlimited e (inr ((c, it, escapes), _, _)) = absurd (stays_inside old c.command (subst IsOnRows (sym (its c it.is)) on) escapes)
+    fails_unlimited e (inr ((c, it, escapes), _, _)) = absurd (stays_inside old c.command (subst IsChange (sym (its c it.is)) on) escapes)
 
   pub fails_inside : IsAllowed → (e : Error) → ExecutesInside 0 text params old new (Err e) → HasReason old new e
   fails_inside allowed e h = by_limit old.step_limit refl
@@ -128,7 +132,7 @@ not_concluded task mode w stop holds (inl (s, tested, _)) = tested.0 holds
 not_concluded task mode w stop holds (inr (doubt, _, inl (s, returns, _))) = absurd (let e = returns in cc)
 not_concluded task mode w stop holds (inr (doubt, _, inr (rows, _, gives))) = absurd (let e = gives in cc)
 
--- rows that are given, where the table has no AUTOINCREMENT
+-- rows that are given, if the table has no AUTOINCREMENT
 module _ (task : Task) (uncounted : task.table.is_counted ≡ false) (from : Source) (db : Trees) where
   abbrev given : Database
   given = record { schema = task.schema; trees = db }

@@ -19,7 +19,7 @@ use Rattle.version_tables.specs.declared.selection.Selection.{Selection}
 use Rattle.version_tables.specs.declared.selection.Selection.TheVariants.{Whole, EndingAt, Overlapping}
 use Rattle.version_tables.specs.Steps.{Keeps}
 
--- ---- what is parsed has no RETURNING
+-- ---- parsed commands have no RETURNING
 
 abbrev NamesNothing : Checked Parsed → Type 0
 NamesNothing (Ok p) = (schema : Schema) (base : ℕ) → returning schema base p.statement ≡ Ok None
@@ -70,7 +70,7 @@ through (Err e) f b h = absurd cc
 pub value_is : {A : Type 0} (a b : A) → (let r : Checked A = Ok a in r ≡ Ok b) → b ≡ a
 value_is a b h = cc
 
--- what a command is found with
+-- the result with which a command is found
 found_with : {A B : Type 0} (r : Checked A) (b : B) (found : A × B) → and_then r (λ a. Ok (a, b)) ≡ Ok found → found.1 ≡ b
 found_with {A} {B} (Ok a) b found h = ap (λ (q : A × B). q.1) (value_is (a, b) found h)
 found_with (Err e) b found h = absurd cc

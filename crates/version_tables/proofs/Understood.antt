@@ -1,4 +1,4 @@
--- What a CREATE or an INSERT means over any schema.
+-- The meaning of a CREATE or an INSERT over any schema.
 use Rattle.std.proofs.Common.{◌≡◌, ℕ, ◌+◌, List, [], Some, None, Ok, Err, inl, inr, refl, sym, ap, subst, ◌∙◌, false, true, true≢false, Bool}
 use Rattle.std.specs.Prelude.{◌&&◌, ◌==◌, if◌then◌else◌, is_some, length, not, slice_get, slice_range}
 use Rattle.std.specs.Option.{option_or}
@@ -37,7 +37,7 @@ CreatesOne text (Err e) = Unit {0}
 abbrev pub IsCreateText : List ℕ → Type 0
 IsCreateText text = CreatesOne text (first text)
 
--- where it is understood, it makes a table
+-- if the text is understood, it makes a table
 abbrev pub Makes : List ℕ → Compiled → Type 0
 Makes text c = (c.command ≡ CreateTable) × (text_of text c ≡ text) × (c.returning ≡ None) × (c.formats ≡ [])
 

@@ -1,4 +1,4 @@
--- What UPDATE of versions does, whatever columns it sets: of those of which its tests are true, and
+-- UPDATE of versions, whatever columns it sets: of those of which its tests are true, and
 -- of those with a key.
 use Rattle.std.proofs.Common.{◌≡◌, ◌<◌, inl, inr, ℕ, pos, List, [], ◌∷◌, ◌++◌, map, drop, filter, length, Bool, true, false, not, ◌≤◌, None, Ok, Err, refl, sym, ap, subst, subst₂, ◌∙◌, arith}
 use Rattle.std.specs.Prelude.{unwrap_or}
@@ -118,12 +118,8 @@ fused f g [] = refl
 fused f g (x ∷ xs) = ap (λ l. f (g x) ∷ l) (fused f g xs)
 
 -- the rows of which the tests are true, as the query gives them
-module _ (tests columns : List Term) (params : Row) (picks : Version → Bool) (test : Row → Bool) (P : Version → Type 0) (f : Version → Version) (body : Row → Row)
-    (test_is : (r : Row) → list_all (holds (params ∷ r ∷ [])) tests ≡ test (version_shown r))
-    (test-stored : (v : Version) → test (stored v) ≡ picks v)
-    (body_is : (r : Row) → version_shown (again (output (updating tests columns) (params ∷ r ∷ [])).1) ≡ body (version_shown r))
-    (body-stored : (v : Version) → P v → body (stored v) ≡ stored (f v))
-    (db : Database) (m : Records) (are : AllByRecursion P m.versions) (was : Represents db m) (found : List Row) (a : IsAnswer (updating tests columns) (overlay db.trees []) params found) where
+module _ (tests columns : List Term) (params : Row) (test : Row → Bool) (test_is : (r : Row) → list_all (holds (params ∷ r ∷ [])) tests ≡ test (version_shown r)) (db : Database) (m : Records) (was : Represents db m)
+    (found : List Row) (a : IsAnswer (updating tests columns) (overlay db.trees []) params found) where
   abbrev update_query : Query
   update_query = updating tests columns
 
@@ -133,14 +129,8 @@ module _ (tests columns : List Term) (params : Row) (picks : Version → Bool) (
   abbrev pub tested : Row → Bool
   tested r = list_all (holds (params ∷ r ∷ [])) tests
 
-  abbrev is_spared : Row → Bool
-  is_spared b = not (test b)
-
   tests_are : tested ≡ (λ r. test (version_shown r))
   tests_are = fun_ext test_is
-
-  picks_are : (λ (v : Version). test (stored v)) ≡ picks
-  picks_are = fun_ext test-stored
 
   kept : a.kept ≡ map (output update_query) (map (λ r. params ∷ r ∷ []) (filter tested olds))
   kept = a.distinct ∙ ap (map (output update_query)) (a.grouped ∙ chosen tested (λ r. params ∷ r ∷ []) olds)
@@ -151,36 +141,46 @@ module _ (tests columns : List Term) (params : Row) (picks : Version → Bool) (
   pub left : without_all olds (ids_of found) ≡ filter (λ r. not (test (version_shown r))) olds
   left = taken_out tested olds (ids_of found) was.untied was.keyed these ∙ ap (λ q. filter (λ r. not (q r)) olds) tests_are
 
-  -- what is put back, by what was taken out
-  pub put_back : (g : Row → Row) → ((r : Row) → again (output update_query (params ∷ r ∷ [])).1 ≡ g r) → IsPermutation (map g (filter tested olds)) (map again found)
+  -- the rows that are put back, by those that were taken out
+  pub put_back : (g : Row → Row) → ((r : Row) → again (output update_query (params ∷ r ∷ [])).1 ≡ g r) → IsPermutation (map g (filter (λ r. test (version_shown r)) olds)) (map again found)
   put_back g whole =
-      subst₂ IsPermutation (ap (λ l. map again (map (λ (o : Output). o.1) l)) kept ∙ each_back (filter tested olds)) (ap (map again) (sym a.shown)) (IsPermutation-map again _ _ (IsPermutation-map (λ (o : Output). o.1) _ _ a.same))
+      subst (λ p. IsPermutation (map g (filter p olds)) (map again found)) tests_are
+      (subst₂ IsPermutation (ap (λ l. map again (map (λ (o : Output). o.1) l)) kept ∙ each_back (filter tested olds)) (ap (map again) (sym a.shown)) (IsPermutation-map again _ _ (IsPermutation-map (λ (o : Output). o.1) _ _ a.same)))
     where
       each_back : (rs : List Row) → map again (map (λ (o : Output). o.1) (map (output update_query) (map (λ r. params ∷ r ∷ []) rs))) ≡ map g rs
       each_back [] = refl
       each_back (r ∷ rs) = let one = whole r in let more = each_back rs in cc
 
-  pub gone : IsPermutation (map stored (map f (filter picks m.versions))) (map version_shown (map again found))
-  gone =
-      subst₂ IsPermutation
-      (ap (map body) (filter-map test stored m.versions ∙ ap (λ t. map stored (filter t m.versions)) picks_are) ∙ made P body f body-stored (filter picks m.versions) (all-filter P picks m.versions are))
-      (ap (map (λ s. version_shown (again s))) (sym a.shown) ∙ sym (fused version_shown again found))
-      (IsPermutation-trans _ _ _ (IsPermutation-map body _ _ (IsPermutation-filter test _ _ was.says.versions))
-      (subst (λ l. IsPermutation l (map (λ s. version_shown (again s)) (map (λ (o : Output). o.1) a.ordered)))
-      (ap (λ l. map (λ s. version_shown (again s)) (map (λ (o : Output). o.1) l)) kept ∙ bodies tests columns params body body_is (filter tested olds) ∙ ap (λ t. map body (map version_shown (filter t olds))) tests_are ∙ ap (map body) (sym (filter-map test version_shown olds)))
-      (IsPermutation-map (λ s. version_shown (again s)) _ _ (IsPermutation-map (λ (o : Output). o.1) _ _ a.same))))
+  -- the rows that they show, by the versions of which P holds
+  module _ (picks : Version → Bool) (P : Version → Type 0) (f : Version → Version) (body : Row → Row) (test-stored : (v : Version) → test (stored v) ≡ picks v) (body_is : (r : Row) → version_shown (again (output (updating tests columns) (params ∷ r ∷ [])).1) ≡ body (version_shown r))
+      (body-stored : (v : Version) → P v → body (stored v) ≡ stored (f v)) (are : AllByRecursion P m.versions) where
+    abbrev is_spared : Row → Bool
+    is_spared b = not (test b)
 
-  pub rest : IsPermutation (map stored (filter (λ v. not (picks v)) m.versions)) (map version_shown (without_all olds (ids_of found)))
-  rest =
-      subst₂ IsPermutation
-      (filter-map is_spared stored m.versions ∙ ap (λ t. map stored (filter (λ v. not (t v)) m.versions)) picks_are)
-      (filter-map is_spared version_shown olds ∙ ap (map version_shown) (sym left))
-      (IsPermutation-filter is_spared _ _ was.says.versions)
+    picks_are : (λ (v : Version). test (stored v)) ≡ picks
+    picks_are = fun_ext test-stored
 
-  -- once it is put back where its rowids are free
-  pub put_shows : are_fresh (without_all olds (ids_of found)) (map again found) ≡ true → IsPermutation (map stored (map f (filter picks m.versions) ++ filter (λ v. not (picks v)) m.versions)) (map version_shown (put_all (without_all olds (ids_of found)) (map again found)))
-  put_shows fresh =
-      IsPermutation-trans _ _ _ (subst₂ IsPermutation (sym (map-append stored _ _)) (sym (map-append version_shown _ _)) (IsPermutation-append _ _ _ _ gone rest)) (IsPermutation-map version_shown _ _ (put_fresh (map again found) _ fresh))
+    pub gone : IsPermutation (map stored (map f (filter picks m.versions))) (map version_shown (map again found))
+    gone =
+        subst₂ IsPermutation
+        (ap (map body) (filter-map test stored m.versions ∙ ap (λ t. map stored (filter t m.versions)) picks_are) ∙ made P body f body-stored (filter picks m.versions) (all-filter P picks m.versions are))
+        (ap (map (λ s. version_shown (again s))) (sym a.shown) ∙ sym (fused version_shown again found))
+        (IsPermutation-trans _ _ _ (IsPermutation-map body _ _ (IsPermutation-filter test _ _ was.says.versions))
+        (subst (λ l. IsPermutation l (map (λ s. version_shown (again s)) (map (λ (o : Output). o.1) a.ordered)))
+        (ap (λ l. map (λ s. version_shown (again s)) (map (λ (o : Output). o.1) l)) kept ∙ bodies tests columns params body body_is (filter tested olds) ∙ ap (λ t. map body (map version_shown (filter t olds))) tests_are ∙ ap (map body) (sym (filter-map test version_shown olds)))
+        (IsPermutation-map (λ s. version_shown (again s)) _ _ (IsPermutation-map (λ (o : Output). o.1) _ _ a.same))))
+
+    pub rest : IsPermutation (map stored (filter (λ v. not (picks v)) m.versions)) (map version_shown (without_all olds (ids_of found)))
+    rest =
+        subst₂ IsPermutation
+        (filter-map is_spared stored m.versions ∙ ap (λ t. map stored (filter (λ v. not (t v)) m.versions)) picks_are)
+        (filter-map is_spared version_shown olds ∙ ap (map version_shown) (sym left))
+        (IsPermutation-filter is_spared _ _ was.says.versions)
+
+    -- once it is put back where its rowids are free
+    pub put_shows : are_fresh (without_all olds (ids_of found)) (map again found) ≡ true → IsPermutation (map stored (map f (filter picks m.versions) ++ filter (λ v. not (picks v)) m.versions)) (map version_shown (put_all (without_all olds (ids_of found)) (map again found)))
+    put_shows fresh =
+        IsPermutation-trans _ _ _ (subst₂ IsPermutation (sym (map-append stored _ _)) (sym (map-append version_shown _ _)) (IsPermutation-append _ _ _ _ gone rest)) (IsPermutation-map version_shown _ _ (put_fresh (map again found) _ fresh))
 
 -- the rows of which the tests are true are changed, and counted; of the versions P holds
 module _ (text : List ℕ) (tests columns : List Term) (params : Row) (picks : Version → Bool) (test : Row → Bool) (P : Version → Type 0) (f : Version → Version) (body : Row → Row)
@@ -211,10 +211,10 @@ module _ (text : List ℕ) (tests columns : List Term) (params : Row) (picks : V
       let put : new.now.trees 2 ≡ put_all (without_all (db 2) (ids_of found.0)) (map again found.0) = after 2 ∙ applied.rows ∙ ap (put_all (without_all (db 2) (ids_of found.0))) news in
       let fresh : are_fresh (without_all (db 2) (ids_of found.0)) (map again found.0) ≡ true = rw news at applied.fresh in
       let keyed = rw news at applied.keyed in
-      let stays = left tests columns params picks test P f body test_is test-stored body_is body-stored old.now m are was found.0 a in
+      let stays = left tests columns params test test_is old.now m was found.0 a in
       let answered : count ≡ length edit.news =
       w.counted ∙ ap (λ (n : Tally × Database). unwrap_or n.0.rows 0) (same_value (went (went done.2).2).2) ∙ ap (λ (it : Written). length it.rows) (same_value written.2) in
-      let goes = gone tests columns params picks test P f body test_is test-stored body_is body-stored old.now m are was found.0 a in
+      let goes = gone tests columns params test test_is old.now m was found.0 a picks P f body test-stored body_is body-stored are in
       let all : length (map again found.0) ≡ length (filter picks m.versions) =
       sym (length-map (map again found.0) version_shown) ∙ length_permutation _ _ goes ∙ length-map _ stored ∙ length-map _ f in (
         record {
@@ -222,7 +222,7 @@ module _ (text : List ℕ) (tests columns : List Term) (params : Row) (picks : V
           says = record {
             meta = ap (map meta_shown) (after 0 ∙ applied.tables.0 (λ e. absurd (omega (arith, e)))) ∙ was.says.meta;
             tables = subst (λ rows. IsPermutation (defined 1 m.tables) (map table_shown rows)) (sym (after 1 ∙ applied.tables.1.0 (λ e. absurd (omega (arith, e))))) was.says.tables;
-            versions = rw put (put_shows tests columns params picks test P f body test_is test-stored body_is body-stored old.now m are was found.0 a fresh);
+            versions = rw put (put_shows tests columns params test test_is old.now m was found.0 a picks P f body test-stored body_is body-stored are fresh);
           };
           untied = rw put (put_table (map again found.0) _ fresh (rw stays (ascending-filter _ _ (db 2) was.untied)));
           keyed = rw put (put_keyed (map again found.0) _ keyed (rw stays (all-filter _ _ (db 2) was.keyed)));
@@ -257,15 +257,13 @@ own_mapped f same (x ∷ xs) ys own = (mapped_apart f same x xs ys own.0, own_ma
 pub own_changed : (k : Version) (f : Version → Version) → ((a b : Version) → same_key (f a) b ≡ same_key a b) → (m : Records) → HaveOwnKeys m.versions → HaveOwnKeys (changed k f m).versions
 own_changed k f same m own = own_mapped f same (filter (same_key k) m.versions) _ (own_along _ _ (split (same_key k) m.versions) own)
 
--- ---- why UPDATE by the key fails, and that the database stays healthy
+-- ---- why UPDATE fails, and that the database stays healthy
 
-module _ (text : List ℕ) (columns : List Term) (k : Version) (more : Row) (f : Version → Version) (body : Row → Row)
-    (one : (others : Others) → IsOne text (length (key_and k more)) (understood (schema_with others) text))
-    (is : (others : Others) → (command_of (understood (schema_with others) text) ≡ Update 2 (record { lets = []; body = changing columns })) × IsPlain (understood (schema_with others) text))
-    (body_is : (r : Row) → version_shown (again (output (changing columns) (key_and k more ∷ r ∷ [])).1) ≡ body (version_shown r))
-    (whole : (r : Row) → again (output (changing columns) (key_and k more ∷ r ∷ [])).1 ≡ cast Integer (column r 0) ∷ body (version_shown r))
-    (body-stored : (v : Version) → body (stored v) ≡ stored (f v)) (same : (a b : Version) → same_key (f a) b ≡ same_key a b) (values_kept : (v : Version) → (f v).values ≡ v.values)
-    (typed : (others : Others) → accepts_program (schema_with others) [] (changing columns) (key_and k more) ≡ true) (never : NeverOverflows (key_and k more) (changing columns))
+module _ (text : List ℕ) (tests columns : List Term) (params : Row) (test : Row → Bool) (body : Row → Row)
+    (one : (others : Others) → IsOne text (length params) (understood (schema_with others) text))
+    (is : (others : Others) → (command_of (understood (schema_with others) text) ≡ Update 2 (record { lets = []; body = updating tests columns })) × IsPlain (understood (schema_with others) text))
+    (test_is : (r : Row) → list_all (holds (params ∷ r ∷ [])) tests ≡ test (version_shown r))
+    (whole : (r : Row) → again (output (updating tests columns) (params ∷ r ∷ [])).1 ≡ cast Integer (column r 0) ∷ body (version_shown r))
     (old : State) (m : Records) (was : Represents old.now m) (count : ℕ) (healthy : IsHealthy count old.now) where
   abbrev other_tables : Others
   other_tables = was.schema.others
@@ -277,10 +275,10 @@ module _ (text : List ℕ) (columns : List Term) (k : Version) (more : Row) (f :
   db = old.now.trees
 
   abbrev query : Query
-  query = changing columns
+  query = updating tests columns
 
-  abbrev keyed_rows : Row → Bool
-  keyed_rows r = has_key k (version_shown r)
+  abbrev taken : Row → Bool
+  taken r = test (version_shown r)
 
   bare : AllByRecursion (λ (i : Index). 4 ≤ i.table) other_tables.indexes
   bare = subst HasNoIndexOfOthers was.schema.schema_is healthy.bare
@@ -288,70 +286,69 @@ module _ (text : List ℕ) (columns : List Term) (k : Version) (more : Row) (f :
   obeys : Obeys (schema_with other_tables) db
   obeys = subst (λ s. Obeys s db) was.schema.schema_is healthy.sound.obeys
 
-  module _ (rows : List Row) (a : IsAnswer query (overlay db []) (key_and k more) rows) where
+  edit_is : (rows : List Row) → edit_of db (version_table 2) (ids_of rows) Given 1 rows ≡ version_edit (ids_of rows) (map again rows)
+  edit_is rows = ap (λ (l : List Row). let e : Edit = record { table = version_table 2; gone = ids_of rows; news = l } in e) (numbered_given _ _)
+
+  module _ (rows : List Row) (a : IsAnswer query (overlay db []) params rows) where
     abbrev spared : List Row
     spared = without_all (db 2) (ids_of rows)
 
-    abbrev every : AllByRecursion (λ (v : Version). Unit {0}) m.versions
-    every = everywhere (λ _. Unit {0}) (λ _. tt) m.versions
+    spared_is : spared ≡ filter (λ r. not (taken r)) (db 2)
+    spared_is = left tests columns params test test_is old.now m was rows a
 
-    spared_is : spared ≡ filter (λ r. not (keyed_rows r)) (db 2)
-    spared_is = left by_key columns (key_and k more) (same_key k) (has_key k) (λ _. Unit {0}) f body (has_key-row k more) (has_key-stored k) body_is (λ v _. body-stored v) old.now m every was rows a
-
-    back : IsPermutation (map (λ r. cast Integer (column r 0) ∷ body (version_shown r)) (filter keyed_rows (db 2))) (map again rows)
-    back =
-        subst (λ (p : Row → Bool). IsPermutation (map (λ r. cast Integer (column r 0) ∷ body (version_shown r)) (filter p (db 2))) (map again rows)) (fun_ext (has_key-row k more))
-        (put_back by_key columns (key_and k more) (same_key k) (has_key k) (λ _. Unit {0}) f body (has_key-row k more) (has_key-stored k) body_is (λ v _. body-stored v) old.now m every was rows a
-        (λ r. cast Integer (column r 0) ∷ body (version_shown r)) whole)
+    back : IsPermutation (map (λ r. cast Integer (column r 0) ∷ body (version_shown r)) (filter taken (db 2))) (map again rows)
+    back = put_back tests columns params test test_is old.now m was rows a (λ r. cast Integer (column r 0) ∷ body (version_shown r)) whole
 
     fresh : are_fresh spared (map again rows) ≡ true
-    fresh = fresh_back (db 2) was.untied was.keyed keyed_rows body (map again rows) spared back spared_is
+    fresh = fresh_back (db 2) was.untied was.keyed taken body (map again rows) spared back spared_is
 
-    edit_is : edit_of db (version_table 2) (ids_of rows) Given 1 rows ≡ version_edit (ids_of rows) (map again rows)
-    edit_is = ap (λ (l : List Row). let e : Edit = record { table = version_table 2; gone = ids_of rows; news = l } in e) (numbered_given _ _)
-
-    stops : IsShort k.values → HaveOwnKeys m.versions → (stop : Option Error) → Edited (schema_with other_tables) Enforced db (edit_of db (version_table 2) (ids_of rows) Given 1 rows) (Err stop) → ⊥
-    stops short own stop change =
+  -- the update fails for a reason if the new rows are short and no two versions are of one key then
+  module _ (picks : Version → Bool) (P : Version → Type 0) (f : Version → Version) (test-stored : (v : Version) → test (stored v) ≡ picks v) (body_is : (r : Row) → version_shown (again (output (updating tests columns) (params ∷ r ∷ [])).1) ≡ body (version_shown r))
+      (body-stored : (v : Version) → P v → body (stored v) ≡ stored (f v)) (typed : (others : Others) → accepts_program (schema_with others) [] (updating tests columns) params ≡ true) (never : NeverOverflows params (updating tests columns))
+      (are : AllByRecursion P m.versions) (short : (r : Row) (v : Version) → P v → taken r ≡ true → version_shown r ≡ stored v → IsShort (f v).values) (own : HaveOwnKeys (map f (filter picks m.versions) ++ filter (λ v. not (picks v)) m.versions)) where
+    stops : (rows : List Row) → IsAnswer query (overlay db []) params rows → (stop : Option Error) → Edited (schema_with other_tables) Enforced db (edit_of db (version_table 2) (ids_of rows) Given 1 rows) (Err stop) → ⊥
+    stops rows a stop change =
         let low : 2 < 4 = omega arith in
         let news = map again rows in
-        let own_rows = own_back (db 2) was.untied was.keyed keyed_rows body news spared back spared_is f body-stored count healthy.room (rows_show old.now m was)
-        (λ r v taken shows. subst IsShort (sym (values_kept v ∙ (key_parts k v (sym (has_key-stored k v) ∙ ap (has_key k) (sym shows) ∙ taken)).1)) short) in
-        let shown = put_shows by_key columns (key_and k more) (same_key k) (has_key k) (λ _. Unit {0}) f body (has_key-row k more) (has_key-stored k) body_is (λ v _. body-stored v) old.now m every was rows a fresh in
-        let after = put_all spared news in
-        let keyed = keyed_back (db 2) was.untied was.keyed keyed_rows body news spared back spared_is in
-        let unique = unique_kept other_tables bare db (with_tree db 2 after) (with_same db 2 low after other_tables.tables apart) (obeys.rules Unique) (rows_apart after (changed k f m).versions keyed shown (own_changed k f same m own)) in
-        not_stopped other_tables apart Enforced db (version_edit (ids_of rows) news) low (version_allowed other_tables apart db (ids_of rows) news own_rows fresh unique) (version_sized other_tables apart db (ids_of rows) news own_rows bare) stop
-        (subst (λ e. Edited (schema_with other_tables) Enforced db e (Err stop)) edit_is change)
+        let kept = spared rows a in
+        let fits = fresh rows a in
+        let own_rows = own_back (db 2) was.untied was.keyed taken body news kept (back rows a) (spared_is rows a) P f body-stored count healthy.room (rows_show P old.now m are was) short in
+        let shown = put_shows tests columns params test test_is old.now m was rows a picks P f body test-stored body_is body-stored are fits in
+        let after = put_all kept news in
+        let keyed = keyed_back (db 2) was.untied was.keyed taken body news kept (back rows a) (spared_is rows a) in
+        let unique = unique_kept other_tables bare db (with_tree db 2 after) (with_same db 2 low after other_tables.tables apart) (obeys.rules Unique) (rows_apart after (map f (filter picks m.versions) ++ filter (λ v. not (picks v)) m.versions) keyed shown own) in
+        not_stopped other_tables apart Enforced db (version_edit (ids_of rows) news) low (version_allowed other_tables apart db (ids_of rows) news own_rows fits unique) (version_sized other_tables apart db (ids_of rows) news own_rows bare) stop
+        (subst (λ e. Edited (schema_with other_tables) Enforced db e (Err stop)) (edit_is rows) change)
 
-  abbrev task : Task
-  task = record { limit = None; keys = Enforced; schema = schema_with other_tables; table = version_table 2; params = key_and k more }
+    abbrev task : Task
+    task = record { limit = None; keys = Enforced; schema = schema_with other_tables; table = version_table 2; params = params }
 
-  abbrev asked : Database
-  asked = record { schema = schema_with other_tables; trees = db }
+    abbrev asked : Database
+    asked = record { schema = schema_with other_tables; trees = db }
 
-  refers : (w : Written) → Updates task (record { lets = []; body = query }) (key_and k more) db (Ok w) → Refers among.All (schema_with other_tables) w.trees
-  refers w updated =
-      let found = went updated in
-      let written = went found.2 in
-      let trees : w.trees ≡ written.0 = ap (λ (it : Written). it.trees) (same_value written.2) in
-      let low : 2 < 4 = omega arith in
-      let edit = edit_of db (version_table 2) (ids_of found.0) Given 1 found.0 in
-      let applied = one_step_with other_tables apart _ db written.0 edit low written.1 in
-      subst (Refers among.All (schema_with other_tables)) (sym trees) (refers_kept other_tables apart db written.0 (others_same other_tables apart _ db written.0 edit low applied) (obeys.rules ForeignKey))
+    refers : (w : Written) → Updates task (record { lets = []; body = query }) params db (Ok w) → Refers among.All (schema_with other_tables) w.trees
+    refers w updated =
+        let found = went updated in
+        let written = went found.2 in
+        let trees : w.trees ≡ written.0 = ap (λ (it : Written). it.trees) (same_value written.2) in
+        let low : 2 < 4 = omega arith in
+        let edit = edit_of db (version_table 2) (ids_of found.0) Given 1 found.0 in
+        let applied = one_step_with other_tables apart _ db written.0 edit low written.1 in
+        subst (Refers among.All (schema_with other_tables)) (sym trees) (refers_kept other_tables apart db written.0 (others_same other_tables apart _ db written.0 edit low applied) (obeys.rules ForeignKey))
 
-  allowed : IsShort k.values → HaveOwnKeys m.versions → (t : List ℕ) (stop : Option Error) → Does None (mode_of old) (key_and k more) (record old.now { schema = schema_with other_tables }) t None (Update 2 (record { lets = []; body = query })) (Err stop) → ⊥
-  allowed short own t stop (inl (s, updated, _)) =
-      not_updated task (record { lets = []; body = query }) db (query_given asked query (key_and k more) (typed other_tables) never) (λ rows answers at change. stops rows (answers.answer Null) short own at change) s updated
-  allowed short own t stop (inr (w, updated, concludes)) = not_concluded task (mode_of old) w stop (refers w updated) concludes
+    allowed : (t : List ℕ) (stop : Option Error) → Does None (mode_of old) params (record old.now { schema = schema_with other_tables }) t None (Update 2 (record { lets = []; body = query })) (Err stop) → ⊥
+    allowed t stop (inl (s, updated, _)) =
+        not_updated task (record { lets = []; body = query }) db (query_given asked query params (typed other_tables) never) (λ rows answers at change. stops rows (answers.answer Null) at change) s updated
+    allowed t stop (inr (w, updated, concludes)) = not_concluded task (mode_of old) w stop (refers w updated) concludes
 
-  pub changing_fails : IsShort k.values → HaveOwnKeys m.versions → (new : State) (e : Error) → ExecutesInside 0 text (key_and k more) old new (Err e) → HasReason old new e
-  changing_fails short own new = fails_inside text (key_and k more) (Update 2 (record { lets = []; body = query })) one is tt old new was.schema (allowed short own)
+    pub updating_fails : (new : State) (e : Error) → ExecutesInside 0 text params old new (Err e) → HasReason old new e
+    updating_fails new = fails_inside text params (Update 2 (record { lets = []; body = query })) (schema_with other_tables) (one other_tables) (is other_tables) tt old new was.schema.schema_is (allowed text)
 
-  pub changing_healthy : (new : State) (n : ℕ) → Executes text (key_and k more) old new (Ok n) → IsHealthy count new.now
-  changing_healthy new n h =
+  pub updating_healthy : (new : State) (n : ℕ) → Executes text params old new (Ok n) → IsHealthy count new.now
+  updating_healthy new n h =
       let command = Update 2 (record { lets = []; body = query }) in
-      let w = runs_as text (key_and k more) old new (schema_with other_tables) was.schema.schema_is command (is other_tables).0 (is other_tables).1 n h in
-      let done = went (subst (λ s. Does old.step_limit (mode_of old) (key_and k more) (record old.now { schema = s }) (statement_of text (understood (schema_with other_tables) text)) None command (Ok (w.tally, new.now))) was.schema.schema_is w.changed) in
+      let w = runs_as text params old new (schema_with other_tables) was.schema.schema_is command (is other_tables).0 (is other_tables).1 n h in
+      let done = went (subst (λ s. Does old.step_limit (mode_of old) params (record old.now { schema = s }) (statement_of text (understood (schema_with other_tables) text)) None command (Ok (w.tally, new.now))) was.schema.schema_is w.changed) in
       let now = ap (λ (p : Tally × Database). p.1) (same_value (went (went done.2).2).2) in
       let found = went done.1 in
       let written = went found.2 in
@@ -360,9 +357,27 @@ module _ (text : List ℕ) (columns : List Term) (k : Version) (more : Row) (f :
       let applied = one_step_with other_tables apart _ db written.0 (edit_of db (version_table 2) (ids_of found.0) Given 1 found.0) low written.1 in
       let a = found.1.answer Null in
       let put : new.now.trees 2 ≡ put_all (spared found.0 a) (map again found.0) =
-      ap (λ (d : Database). d.trees 2) now ∙ ap (λ (all : Trees). all 2) trees ∙ applied.rows ∙ ap (edited db) (edit_is found.0 a) in
+      ap (λ (d : Database). d.trees 2) now ∙ ap (λ (all : Trees). all 2) trees ∙ applied.rows ∙ ap (edited db) (edit_is found.0) in
       record {
         sound = w.sound;
         bare = subst HasNoIndexOfOthers (was.schema.schema_is ∙ sym (ap (λ (d : Database). d.schema) now)) healthy.bare;
-        room = subst (HaveRoomFor count) (sym put) (room_back (db 2) was.untied was.keyed keyed_rows body (map again found.0) (spared found.0 a) (back found.0 a) (spared_is found.0 a) count healthy.room);
+        room = subst (HaveRoomFor count) (sym put) (room_back (db 2) was.untied was.keyed taken body (map again found.0) (spared found.0 a) (back found.0 a) (spared_is found.0 a) count healthy.room);
       }
+
+-- ---- so it is of UPDATE by the key
+
+module _ (text : List ℕ) (columns : List Term) (k : Version) (more : Row) (f : Version → Version) (body : Row → Row)
+    (one : (others : Others) → IsOne text (length (key_and k more)) (understood (schema_with others) text))
+    (is : (others : Others) → (command_of (understood (schema_with others) text) ≡ Update 2 (record { lets = []; body = changing columns })) × IsPlain (understood (schema_with others) text))
+    (body_is : (r : Row) → version_shown (again (output (changing columns) (key_and k more ∷ r ∷ [])).1) ≡ body (version_shown r))
+    (whole : (r : Row) → again (output (changing columns) (key_and k more ∷ r ∷ [])).1 ≡ cast Integer (column r 0) ∷ body (version_shown r))
+    (body-stored : (v : Version) → body (stored v) ≡ stored (f v)) (same : (a b : Version) → same_key (f a) b ≡ same_key a b) (values_kept : (v : Version) → (f v).values ≡ v.values)
+    (typed : (others : Others) → accepts_program (schema_with others) [] (changing columns) (key_and k more) ≡ true) (never : NeverOverflows (key_and k more) (changing columns))
+    (old : State) (m : Records) (was : Represents old.now m) (count : ℕ) (healthy : IsHealthy count old.now) where
+  pub changing_fails : IsShort k.values → HaveOwnKeys m.versions → (new : State) (e : Error) → ExecutesInside 0 text (key_and k more) old new (Err e) → HasReason old new e
+  changing_fails short own =
+      updating_fails text by_key columns (key_and k more) (has_key k) body one is (has_key-row k more) whole old m was count healthy (same_key k) (λ _. Unit {0}) f (has_key-stored k) body_is (λ v _. body-stored v) typed never (everywhere (λ _. Unit {0}) (λ _. tt) m.versions)
+      (λ r v _ taken shows. subst IsShort (sym (values_kept v ∙ (key_parts k v (sym (has_key-stored k v) ∙ ap (has_key k) (sym shows) ∙ taken)).1)) short) (own_changed k f same m own)
+
+  pub changing_healthy : (new : State) (n : ℕ) → Executes text (key_and k more) old new (Ok n) → IsHealthy count new.now
+  changing_healthy = updating_healthy text by_key columns (key_and k more) (has_key k) body one is (has_key-row k more) whole old m was count healthy

@@ -24,13 +24,13 @@ abbrev pub AreShown : Records → ℕ → Selection → List Row → Type 0
 AreShown records table selection rows =
     (found : List Version) × (rows ≡ map shown found) × AreSelected records table selection found
 
--- they are the first of such rows
+-- the first of such rows
 abbrev pub AreFirst : Database → ℕ → Selection → List Row → Type 0
 AreFirst db table selection given =
     (records : Records) → Represents db records
     → (more : List Row) × AreShown records table selection (given ++ more)
 
--- they are all
+-- all of such rows
 abbrev pub AreAll : Database → ℕ → Selection → List Row → Type 0
 AreAll db table selection given =
     (records : Records) → Represents db records → AreShown records table selection given
@@ -60,13 +60,13 @@ pub record HasGivenRows {S : Type 0} (g : Ghosts S) (table : ℕ) (selection : S
   pub settled : IsTrue (state g first).is_open
       → (state g first).now ≡ (state g first).committed
 
--- it has ended, and has given these rows
+-- the cursor has ended, and has given these rows
 pub record HasGivenAll {S : Type 0} (g : Ghosts S) (table : ℕ) (selection : Selection)
     (first now : Held S) (given : List Row) : Type 0 where
   pub rows : HasCleanDisk (state g now) → AreAll (state g first).now table selection given
   pub left : IsAfterQuery g first now
 
--- it gives one row more, or ends
+-- the cursor gives one row more, or ends
 abbrev pub GivesNext : {S : Type 0} → Ghosts S → ℕ → Selection → Held S → Held S → List Row
     → Option Row → Type 0
 GivesNext g table selection first now given (Some row) =

@@ -35,15 +35,19 @@ pub record IsHealthy (count : ℕ) (db : Database) : Type 0 where
 abbrev pub IsShort : List ℕ → Type 0
 IsShort bytes = 7 * 18 + length bytes ≤ 10 ^ 9
 
+-- each version is short
+abbrev pub AreShort : List Version → Type 0
+AreShort = AllByRecursion (λ v. IsShort v.values)
+
 -- no two of the versions have one key
 abbrev pub HaveOwnKeys : List Version → Type 0
 HaveOwnKeys = IsAscending (λ a b. same_key a b ≡ false)
 
 -- versions that can be added to records: each is short, and no two of all have one key
 pub record CanAdd (vs : List Version) (records : Records) : Type 0 where
-  pub short : AllByRecursion (λ (v : Version). IsShort v.values) vs
+  pub short : AreShort vs
   pub own : HaveOwnKeys (vs ++ records.versions)
 
--- the row that is added next gets this number, one above that of the last row
+-- the row that is added next gets this number, one above the last row's
 abbrev pub IsNextNumber : ℤ → Database → Type 0
 IsNextNumber n db = next_rowid (db.trees 2) ≡ n

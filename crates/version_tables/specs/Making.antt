@@ -11,25 +11,27 @@ use Rattle.version_tables.specs.Tables.{definition_table, meta_table, version_ta
 
 -- ---- the schema
 
--- with bt_meta after its tables
+-- a schema with bt_meta after its tables
 abbrev pub with_meta : Schema → Schema
 with_meta s = created s (meta_table 0)
 
--- with bt_table after that
+-- a schema with bt_meta and bt_table after its tables
 abbrev pub with_definitions : Schema → Schema
 with_definitions s = created (with_meta s) (definition_table 0)
 
--- with bt_version, and its index, after both
+-- a schema with all three after its tables, and the index of bt_version
 abbrev pub with_store_tables : Schema → Schema
 with_store_tables s = created (with_definitions s) (version_table 0)
 
--- the trees that they have then, each the next that is free
+-- the tree of bt_meta: each table has the next tree that is free
 abbrev pub meta_tree : Schema → ℕ
 meta_tree = next_tree
 
+-- the tree of bt_table
 abbrev pub definition_tree : Schema → ℕ
 definition_tree s = next_tree (with_meta s)
 
+-- the tree of bt_version
 abbrev pub version_tree : Schema → ℕ
 version_tree s = next_tree (with_definitions s)
 
@@ -49,21 +51,21 @@ pub record IsMadeOf (old : Database) (schema : Schema) (made : List ℕ) (db : D
   pub others : KeepsRows old.schema.tables old.trees db.trees
   pub empty : AllByRecursion (λ tree. db.trees tree ≡ []) made
 
--- with no table more
+-- the database has no table more
 abbrev pub HasNone : Database → Database → Type 0
 HasNone old = IsMadeOf old old.schema []
 
--- with bt_meta
+-- the database has bt_meta more
 abbrev pub HasMeta : Database → Database → Type 0
 HasMeta old = IsMadeOf old (with_meta old.schema) (meta_tree old.schema ∷ [])
 
--- with bt_table too
+-- the database has bt_meta and bt_table more
 abbrev pub HasDefinitions : Database → Database → Type 0
 HasDefinitions old =
     IsMadeOf old (with_definitions old.schema)
     (meta_tree old.schema ∷ definition_tree old.schema ∷ [])
 
--- with all three
+-- the database has all three more
 abbrev pub HasThree : Database → Database → Type 0
 HasThree old =
     IsMadeOf old (with_store_tables old.schema)

@@ -1,4 +1,4 @@
--- Which of the three tables a schema has, and with which columns, whatever else it has.
+-- The three tables that a schema has, and their columns, whatever else it has.
 use Rattle.std.specs.Prelude.{◌≡◌, ◌&&◌, ℕ, Bool, List, [], ◌∷◌, None, IsSome, codes}
 use Rattle.std.specs.Prelude.{is_some}
 use Rattle.std.specs.List.{list_all, list_any}
@@ -17,15 +17,17 @@ pub record HasEachStoreTable (s : Schema) : Type 0 where
   pub table : IsSome (table_named s (codes "bt_table"))
   pub version : IsSome (table_named s (codes "bt_version"))
 
--- ---- their columns
+-- ---- the columns of the three tables
 
--- the names of their columns
+-- the columns of bt_meta
 abbrev pub meta_columns : List (List ℕ)
 meta_columns = codes "id" ∷ codes "form" ∷ codes "clock" ∷ []
 
+-- the columns of bt_table
 abbrev pub definition_columns : List (List ℕ)
 definition_columns = codes "id" ∷ codes "def" ∷ []
 
+-- the columns of bt_version
 abbrev pub version_columns : List (List ℕ)
 version_columns =
     codes "tab" ∷ codes "vals" ∷ codes "s" ∷ codes "e" ∷ codes "ss" ∷ codes "se" ∷ []

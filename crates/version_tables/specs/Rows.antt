@@ -1,4 +1,4 @@
--- What the rows that a query answers are read as.
+-- The rows that a query answers, as they are read.
 use Rattle.std.specs.Prelude.{◌≡◌, true, ℕ, ◌<◌, ℤ, ◌<ℤ◌, List, [], ◌+◌, map, length}
 use Rattle.std.specs.Prelude.{slice_index_or}
 use Rattle.std.specs.Prelude.{IsPermutation, IsSorted}
@@ -17,7 +17,7 @@ IsNumberAt row at n = (at < length row) × (column row at ≡ Int n)
 abbrev pub AreBytesAt : Row → ℕ → List ℕ → Type 0
 AreBytesAt row at b = (at < length row) × (column row at ≡ Blob b)
 
--- what is shown of a table's rows, each once, in an order that ORDER BY allows
+-- the shown rows of a table, each once, in an order that ORDER BY allows
 abbrev pub InOrder : (Row → Row) → (Row → Row → Ordering) → List Row → List Row → Type 0
 InOrder show cmp tree rows =
     (to : List Row) × IsPermutation tree to × (rows ≡ map show to) × IsSorted cmp to

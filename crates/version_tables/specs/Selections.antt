@@ -1,4 +1,4 @@
--- Which versions of a table a query gives, and by which text.
+-- The versions of a table that a query gives, and the text of the query.
 use Rattle.std.specs.Prelude.{◌&&◌, ℕ, ℤ, pos, Bool, true, List, [], ◌∷◌, filter, int_lt}
 use Rattle.std.specs.Ordering.{int_eq}
 use Rattle.sqlite.specs.declared.types.Value.TheVariants.{Int}
@@ -26,7 +26,7 @@ select_text Whole = whole_text
 select_text (EndingAt end) = ending_text
 select_text (Overlapping start end) = overlapping_text
 
--- its parameters
+-- the parameters of the query
 abbrev pub select_given : ℕ → Selection → Row
 select_given table Whole = Int (pos table) ∷ []
 select_given table (EndingAt end) = Int (pos table) ∷ Int end ∷ []

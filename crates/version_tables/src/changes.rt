@@ -93,7 +93,7 @@ pub fn move_ends<S: Alter>(
     )
 }
 
-/// Adds the bytes of a definition under this number. The contract says what that makes where the
+/// Adds the bytes of a definition under this number. The contract says what that makes if the
 /// number follows those of the others.
 pub fn insert_definition<S: Alter>(
     transaction: &mut Transaction<'_, S>,

@@ -6,7 +6,7 @@ ghost use Rattle.version_tables.specs.Rows.{AreBytesAt, IsNumberAt};
 use sqlite::Row;
 use sqlite::types::ValueRef;
 
-/// The integer at a place of a row: `None` where the row has no such place, or another kind of
+/// The integer at a place of a row: `None` if the row has no such place, or another kind of
 /// value there.
 pub fn number_at(row: &Row, at: usize) -> Option<i64>
     ensures { MatchOption result
@@ -18,7 +18,7 @@ pub fn number_at(row: &Row, at: usize) -> Option<i64>
     }
 }
 
-/// The bytes at a place of a row: `None` where the row has no such place, or another kind of value
+/// The bytes at a place of a row: `None` if the row has no such place, or another kind of value
 /// there.
 pub fn bytes_at(row: &Row, at: usize) -> Option<&[u8]>
     ensures { MatchOption result

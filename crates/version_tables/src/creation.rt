@@ -1,13 +1,14 @@
 //! The three tables and the row of bt_meta, made in one transaction.
 
-ghost use Rattle.std.specs.Prelude.{◌≡◌, false, IsTrue, OnErr, OnOk};
+ghost use Rattle.std.specs.Prelude.{◌≡◌, false, IfErr, IsTrue, OnErr, OnOk};
 ghost use Rattle.sqlite.specs.State.{HasCleanDisk};
 ghost use Rattle.sqlite.specs.Held.{state};
 ghost use Rattle.version_tables.specs.Making.{HasCounters, HasDefinitions, HasMeta, HasNone};
 ghost use Rattle.version_tables.specs.Making.{HasThree, IsBegunIn};
 ghost use Rattle.version_tables.specs.Presence.{HasNoStoreTable};
 ghost use Rattle.version_tables.specs.Represents.{Represents, begun};
-ghost use Rattle.version_tables.specs.Steps.{CommitsNothing, IsAsBefore, LeadsTo};
+ghost use Rattle.version_tables.specs.Steps.{CommitsNothing, HasReason, IsAsBefore, LeadsTo};
+ghost use Rattle.version_tables.specs.Steps.{KeepsFaults, MakingFailsWithReason};
 ghost use Rattle.version_tables.specs.Tables.{no_schema};
 
 use sqlite::{Alter, Connection, Error, Transaction, params};
@@ -18,6 +19,8 @@ fn create_meta<S: Alter>(transaction: &mut Transaction<'_, S>) -> Result<usize, 
     ensures made { LeadsTo S.Store transaction.old.conn.now transaction.new.conn.now result
         HasNone HasMeta }
     ensures inside { CommitsNothing S.Store transaction.old.conn.now transaction.new.conn.now }
+    ensures why { MakingFailsWithReason S.Store transaction.old.conn.now transaction.new.conn.now
+        result HasNone }
 {
     transaction.execute(
         "CREATE TABLE bt_meta (id INTEGER PRIMARY KEY, form INTEGER NOT NULL, \
@@ -32,6 +35,8 @@ fn create_definitions<S: Alter>(transaction: &mut Transaction<'_, S>) -> Result<
     ensures made { LeadsTo S.Store transaction.old.conn.now transaction.new.conn.now result
         HasMeta HasDefinitions }
     ensures inside { CommitsNothing S.Store transaction.old.conn.now transaction.new.conn.now }
+    ensures why { MakingFailsWithReason S.Store transaction.old.conn.now transaction.new.conn.now
+        result HasMeta }
 {
     transaction.execute(
         "CREATE TABLE bt_table (id INTEGER PRIMARY KEY, def BLOB NOT NULL) STRICT",
@@ -45,6 +50,8 @@ fn create_versions<S: Alter>(transaction: &mut Transaction<'_, S>) -> Result<usi
     ensures made { LeadsTo S.Store transaction.old.conn.now transaction.new.conn.now result
         HasDefinitions HasThree }
     ensures inside { CommitsNothing S.Store transaction.old.conn.now transaction.new.conn.now }
+    ensures why { MakingFailsWithReason S.Store transaction.old.conn.now transaction.new.conn.now
+        result HasDefinitions }
 {
     transaction.execute(
         "CREATE TABLE bt_version (tab INTEGER NOT NULL, vals BLOB NOT NULL, \
@@ -64,6 +71,8 @@ fn insert_meta<S: Alter>(
     ensures made { LeadsTo S.Store transaction.old.conn.now transaction.new.conn.now result
         HasThree (IsBegunIn form clock) }
     ensures inside { CommitsNothing S.Store transaction.old.conn.now transaction.new.conn.now }
+    ensures why { MakingFailsWithReason S.Store transaction.old.conn.now transaction.new.conn.now
+        result HasThree }
 {
     transaction.execute(
         "INSERT INTO bt_meta (id, form, clock) VALUES (1, ?1, ?2)",
@@ -71,7 +80,7 @@ fn insert_meta<S: Alter>(
     )
 }
 
-/// Adds the three tables after those of others, and the row of the form and the clock.
+/// Adds the three tables after all tables of others, and the row of the form and the clock.
 fn make_tables<S: Alter>(
     transaction: &mut Transaction<'_, S>,
     form: i64,
@@ -81,6 +90,8 @@ fn make_tables<S: Alter>(
     ensures made { LeadsTo S.Store transaction.old.conn.now transaction.new.conn.now result
         HasNone (IsBegunIn form clock) }
     ensures inside { CommitsNothing S.Store transaction.old.conn.now transaction.new.conn.now }
+    ensures why { MakingFailsWithReason S.Store transaction.old.conn.now transaction.new.conn.now
+        result HasNone }
 {
     create_meta(transaction)?;
     create_definitions(transaction)?;
@@ -91,7 +102,8 @@ fn make_tables<S: Alter>(
 
 /// Makes the three tables, with this form and this clock (a moment's number), in one transaction.
 /// What others have in the database stays: the three are added after their tables. On `Err` nothing
-/// is changed, and no transaction is open.
+/// is changed, and no transaction is open. In a database without tables it is refused for nothing
+/// but memory and faults.
 pub fn create<S: Alter>(connection: &mut Connection<S>, form: i64, clock: i64) -> Result<(), Error>
     requires { connection.old.in_transaction ≡ false }
     ensures made { HasCleanDisk (state S.Store connection.new)
@@ -111,6 +123,10 @@ pub fn create<S: Alter>(connection: &mut Connection<S>, form: i64, clock: i64) -
         → IsTrue (state S.Store connection.new).is_open
         → HasCleanDisk (state S.Store connection.old)
         × IsTrue (state S.Store connection.old).is_open }
+    ensures why { HasCleanDisk (state S.Store connection.new)
+        → (state S.Store connection.old).now.schema ≡ no_schema
+        → IfErr result (HasReason (state S.Store connection.old) (state S.Store connection.new)) }
+    ensures faults { KeepsFaults (state S.Store connection.old) (state S.Store connection.new) }
     ensures mode { connection.new.in_transaction ≡ false }
 {
     // For the proof alone: whether a transaction is open is known by this call.

@@ -9,7 +9,7 @@ use period_core::Moment;
 /// The form of a store: in which unit it counts moments. The three tables are the same.
 #[derive(Clone, Copy, PartialEq, Eq, Debug)]
 pub enum Form {
-    /// Form 1: in seconds, and its open end is that of 9999-12-31 23:59:59.
+    /// Form 1: in seconds, and its open end is 9999-12-31 23:59:59.
     Seconds,
     /// Form 2: in microseconds, as the numbers of `Moment` do.
     Microseconds,
@@ -22,7 +22,7 @@ const FIRST_SECOND: i64 = -62_135_596_800;
 const LAST_SECOND: i64 = 253_402_300_799;
 
 /// The moments of a second.
-const PER_SECOND: i64 = 1_000_000;
+const MICROSECONDS_PER_SECOND: i64 = 1_000_000;
 
 impl Form {
     /// The number of the form, 1 or 2, which bt_meta has.
@@ -67,7 +67,7 @@ impl Form {
         }
     }
 
-    /// Whether the number is that of a moment, in the form's unit.
+    /// Whether the number is a moment's, in the form's unit.
     pub(crate) fn has_number(self, number: i64) -> bool
         ensures { IsTrue result ↔ IsNumberIn self number }
     {
@@ -85,7 +85,7 @@ impl Form {
                 if !self.has_number(number) {
                     return None;
                 }
-                Moment::new(number * PER_SECOND)
+                Moment::new(number * MICROSECONDS_PER_SECOND)
             }
             Form::Microseconds => Moment::new(number),
         }

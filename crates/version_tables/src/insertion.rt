@@ -20,7 +20,7 @@ use sqlite::types::ValueRef;
 use sqlite::{Alter, Error, Transaction};
 use std::alloc::{AllocError, Global};
 
-/// How many of these rows, one at least, the next statement adds.
+/// The number of rows, one at least, that the next statement adds.
 fn batch_len(rows: usize) -> usize
     requires { 1 ≤ rows }
     ensures batch { IsBatch result }
@@ -214,7 +214,7 @@ fn insert_numbered<S: Alter>(
     }
 }
 
-/// The first of the numbers for the next rows, where thirty-two follow a row with the number `last`
+/// The first of the numbers for the next rows, if thirty-two follow a row with the number `last`
 /// and there are so many numbers after it.
 fn first_number(last: Option<i64>, rows: usize) -> Option<i64>
     ensures next { IfSome result (λ first. last ≡ Some (first -ℤ pos 1)) }
@@ -259,7 +259,7 @@ fn insert_next<S: Alter>(
 }
 
 /// Adds rows to a table, with the system time from the moment `from` on and before the moment `to`.
-/// It is refused where a version has the key of one of them, or two of them have one key. Over a
+/// It is refused if a version has the key of one of them, or two of them have one key. Over a
 /// healthy database, with room for them, it is refused for nothing else but memory and faults.
 pub fn insert_versions<S: Alter>(
     alloc: Global,

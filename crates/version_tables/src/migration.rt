@@ -3,16 +3,18 @@
 
 ghost use Rattle.std.specs.Prelude.{◌≡◌, OnOk};
 ghost use Rattle.version_tables.specs.Forms.{form_number};
+ghost use Rattle.version_tables.specs.Healthy.{AreShort};
 ghost use Rattle.version_tables.specs.Keeping.{LeavesOthers};
-ghost use Rattle.version_tables.specs.Moves.{AreInSeconds, HaveSeconds, moved};
+ghost use Rattle.version_tables.specs.Moves.{AreInSeconds, HaveSeconds, IsInSeconds, moved};
 ghost use Rattle.version_tables.specs.Moves.{with_moved_versions};
 ghost use Rattle.version_tables.specs.Represents.{with_form};
-ghost use Rattle.version_tables.specs.Steps.{ChangesRecords, ChangesWhere, CommitsNothing};
+ghost use Rattle.version_tables.specs.Steps.{ChangeFailsWithReason, ChangesRecords};
+ghost use Rattle.version_tables.specs.Steps.{ChangesWhere, CommitsNothing, StaysHealthy};
 
 use crate::form::Form;
 use sqlite::{Alter, Error, Transaction, params};
 
-/// Counts the moments of the versions in microseconds, where they are seconds: an end that is open
+/// Counts the moments of the versions in microseconds, if they are seconds: an end that is open
 /// stays open.
 fn move_versions<S: Alter>(transaction: &mut Transaction<'_, S>) -> Result<usize, Error>
     ensures same_reference { transaction.new.conn.ghost_name ≡ transaction.old.conn.ghost_name }
@@ -21,6 +23,10 @@ fn move_versions<S: Alter>(transaction: &mut Transaction<'_, S>) -> Result<usize
     ensures others { OnOk result
         (LeavesOthers S.Store transaction.old.conn.now transaction.new.conn.now) }
     ensures inside { CommitsNothing S.Store transaction.old.conn.now transaction.new.conn.now }
+    ensures why { ChangeFailsWithReason S.Store transaction.old.conn.now transaction.new.conn.now
+        result 0 (λ _ records. HaveSeconds records × AreShort records.versions) }
+    ensures healthy { StaysHealthy S.Store transaction.old.conn.now transaction.new.conn.now
+        result 0 (λ _. Unit {0}) }
 {
     let open_end = Form::Seconds.open_end();
     let forever = Form::Microseconds.open_end();
@@ -43,6 +49,10 @@ fn set_form<S: Alter>(
     ensures others { OnOk result
         (LeavesOthers S.Store transaction.old.conn.now transaction.new.conn.now) }
     ensures inside { CommitsNothing S.Store transaction.old.conn.now transaction.new.conn.now }
+    ensures why { ChangeFailsWithReason S.Store transaction.old.conn.now transaction.new.conn.now
+        result 0 (λ _ _. Unit {0}) }
+    ensures healthy { StaysHealthy S.Store transaction.old.conn.now transaction.new.conn.now
+        result 0 (λ _. Unit {0}) }
 {
     let number = form.number();
     transaction.execute(
@@ -52,7 +62,9 @@ fn set_form<S: Alter>(
 }
 
 /// Moves a store of form 1, whose moments are seconds, to form 2. The clock is given as the moment
-/// at which its second begins. The contract says what that makes where it is that.
+/// at which its second begins. The contract says what that makes if it is that. Over a healthy
+/// database whose versions are short it is refused for nothing but memory and faults, and leaves it
+/// healthy.
 pub fn move_to_microseconds<S: Alter>(
     transaction: &mut Transaction<'_, S>,
     clock: i64,
@@ -63,6 +75,10 @@ pub fn move_to_microseconds<S: Alter>(
     ensures others { OnOk result
         (LeavesOthers S.Store transaction.old.conn.now transaction.new.conn.now) }
     ensures inside { CommitsNothing S.Store transaction.old.conn.now transaction.new.conn.now }
+    ensures why { ChangeFailsWithReason S.Store transaction.old.conn.now transaction.new.conn.now
+        result 0 (λ _ records. AreInSeconds clock records × AreShort records.versions) }
+    ensures healthy { StaysHealthy S.Store transaction.old.conn.now transaction.new.conn.now
+        result 0 IsInSeconds }
 {
     move_versions(transaction)?;
     set_form(transaction, Form::Microseconds, clock)?;

@@ -1,4 +1,4 @@
-//! Which of the three tables a database has, and whether they have their columns. Other tables
+//! The three tables that a database has, and whether they have their columns. Other tables
 //! beside them don't matter.
 
 ghost use Rattle.std.specs.Prelude.{◌≡◌, ◌↔◌, ◌&&◌, codes, is_some};
@@ -11,7 +11,7 @@ ghost use Rattle.version_tables.specs.Presence.{have_columns, meta_columns, vers
 use sqlite::{Alter, Connection};
 use sqlite_schema::schema::{Schema, Table};
 
-/// Which of the three tables are there.
+/// The tables that are there, of the three.
 #[derive(Clone, Copy, Debug, PartialEq, Eq)]
 pub enum Presence {
     /// None of them.
@@ -22,7 +22,7 @@ pub enum Presence {
     Whole,
 }
 
-/// Which of the three tables the database has, by their names. A table that `sqlite` can't use
+/// The tables that the database has, of the three, by their names. A table that `sqlite` can't use
 /// counts as not there.
 pub fn tables_there<S: Alter>(connection: &Connection<S>) -> Presence
     ensures missing { result ≡ Presence.Missing

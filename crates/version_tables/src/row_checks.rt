@@ -89,7 +89,7 @@ fn are_days(start: i64, end: i64) -> bool
     is_day(start) && is_day(end) && start < end
 }
 
-fn is_past(form: Form, from: i64, to: i64, clock: i64) -> bool
+fn is_recorded_by(form: Form, from: i64, to: i64, clock: i64) -> bool
     ensures { IsTrue result ↔ IsRecordedBy form clock from to }
 {
     from <= clock && (to <= clock || to == form.open_end())
@@ -104,11 +104,11 @@ fn are_moments(form: Form, from: i64, to: i64, clock: i64) -> bool
     if !form.has_number(to) {
         return false;
     }
-    from < to && is_past(form, from, to, clock)
+    from < to && is_recorded_by(form, from, to, clock)
 }
 
 /// Whether the row is one of bt_version with numbers that a version may have in a store of the
-/// form, where the clock is at this moment and `tables` is the number of tables: a table that is
+/// form, if the clock is at this moment and `tables` is the number of tables: a table that is
 /// there, a period of days, a system time that begins up to the clock and ends up to it or at the
 /// open end.
 pub fn is_version(row: &Row, form: Form, clock: i64, tables: u32) -> bool
@@ -169,7 +169,7 @@ fn rises(first: &Row, second: &Row) -> bool
     low < high
 }
 
-/// Whether each row begins with an integer that is greater than that of the row before it.
+/// Whether each row begins with a greater integer than the row before it.
 pub fn are_rising(rows: &[Row]) -> bool
     ensures { IsTrue result ↔ AreRising rows.now }
 {
@@ -181,6 +181,7 @@ pub fn are_rising(rows: &[Row]) -> bool
     true
 }
 
+/// Whether two rows have one number in the column at a place.
 fn share_number(first: &Row, second: &Row, at: usize) -> bool
     ensures { IsTrue result ↔ ShareNumber first.now second.now at }
 {
@@ -215,7 +216,7 @@ fn have_one_key(first: &Row, second: &Row) -> bool
         && share_bytes(first, second, 1)
 }
 
-/// Whether a row of bt_version and the row after it are of one key. Where the rows are by key, as
+/// Whether a row of bt_version and the row after it are of one key. If the rows are by key, as
 /// the query shows them, no two are of one key if this is false.
 pub fn repeat_key(rows: &[Row]) -> bool
     ensures { IsTrue result ↔ RepeatKey rows.now }

@@ -1,7 +1,7 @@
 //! Rows of bt_version as they are told apart and as they are added.
 
-/// What tells apart the versions of a table that begin at one moment: their values' bytes, and the
-/// number of the first day of the period.
+/// The key that tells apart the versions of a table that begin at one moment: their values' bytes,
+/// and the number of the first day of the period.
 #[derive(PartialEq, Eq, PartialOrd, Ord, Debug, Drop)]
 pub struct VersionKey {
     pub values: Vec<u8>,

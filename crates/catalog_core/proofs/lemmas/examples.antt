@@ -1,10 +1,6 @@
 pub mod Tables
 pub mod CreateExamples
 pub mod DefinitionExamples
-pub mod InsertExamples
-pub mod QueryExamples
 pub mod TableExamples
 pub mod LawfulExamples
-pub mod UpdateExamples
-pub mod StoredExamples
 pub mod FittingExamples

@@ -1,16 +1,1 @@
-pub mod SeenColumns
 pub mod InPlace
-pub mod FaultSums
-pub mod Matching
-pub mod ColumnLists
-pub mod ReferenceLists
-pub mod ScopeFaults
-pub mod QueryWalks
-pub mod FaultParts
-pub mod QueryFaults
-pub mod ValuePlaces
-pub mod Members
-pub mod Converted
-pub mod ReferenceParts
-pub mod Accepted
-pub mod QuerySizes

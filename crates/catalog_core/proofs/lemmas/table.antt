@@ -1,3 +1,4 @@
 pub mod Numbered
 pub mod Positions
 pub mod Distinct
+pub mod Named

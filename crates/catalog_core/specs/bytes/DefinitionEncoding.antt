@@ -1,4 +1,4 @@
--- Which bytes are those of a table's definition.
+-- The bytes of a table's definition.
 use Rattle.std.specs.Prelude.{◌≡◌, ◌&&◌, ℕ, Bool, true, List, nat_lt}
 use Rattle.std.specs.List.{All, list_all}
 use Rattle.period_core.specs.Encoding.{IsColumnValue, encoded}
@@ -9,7 +9,7 @@ use Rattle.catalog_core.specs.declared.table.Column.{Column}
 use Rattle.catalog_core.specs.declared.table.Reference.{Reference}
 use Rattle.catalog_core.specs.declared.table.TableDef.{TableDef}
 
--- its names are names, and its parents' numbers are below 256
+-- the names are names, and the parents' numbers are below 256
 abbrev pub is_writable : TableDef → Bool
 is_writable d =
     is_name d.name
@@ -24,6 +24,6 @@ EncodesDefinition d bytes =
     × All IsColumnValue (definition_values d)
     × (encoded (definition_values d) ≡ bytes)
 
--- of some definition
+-- the bytes are some definition's
 abbrev pub IsDefinitionEncoding : List ℕ → Type 0
 IsDefinitionEncoding bytes = (d : TableDef) × EncodesDefinition d bytes

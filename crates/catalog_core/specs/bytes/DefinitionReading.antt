@@ -1,4 +1,4 @@
--- What reads the parts of a definition from the front of values.
+-- Readers of the parts of a definition from the front of values.
 use Rattle.std.specs.Prelude.{◌≡◌, ◌==◌, ◌&&◌, ◌++◌, ◌∷◌, ℕ, Bool, true, List, [], length, nat_lt}
 use Rattle.std.specs.List.{list_all}
 use Rattle.period_core.specs.declared.value.Value.{Value}

@@ -19,7 +19,7 @@ number n = Int (pos n)
 abbrev pub place_values : ℕ → List Value
 place_values place = number place ∷ []
 
--- the precision of a system column, or -1 where none was written
+-- the precision of a system column, or -1 if none was written
 abbrev pub written_precision : Option ℕ → ℤ
 written_precision None = neg_ℤ (pos 1)
 written_precision (Some p) = pos p
@@ -40,7 +40,7 @@ column_values c = Text c.name ∷ kind_values c.kind
 abbrev pub period_values : PeriodColumns → List Value
 period_values p = Text p.name ∷ number p.start ∷ number p.end ∷ []
 
--- how many there are, then each one's values
+-- the number of the elements, then each one's values
 abbrev pub counted : {X : Type 0} → (X → List Value) → List X → List Value
 counted values xs = number (length xs) ∷ flat_map values xs
 

@@ -40,15 +40,15 @@ use Rattle.catalog_core.specs.declared.table.TableDef.{TableDef}
 
 -- ==== words ====
 
--- how many of the statement's columns or periods a name matches
+-- the number of the statement's columns or periods that a name matches
 abbrev pub own_matches : CreateTable → Name → ℕ
 own_matches c name = matches_among (λ (x : ColumnElement). x.name) c.columns name
 
--- how many of the statement's application periods have the name
+-- the number of the statement's application periods that have the name
 unfoldable pub period_matches : CreateTable → Name → ℕ
 period_matches c name = count_by (λ (x : PeriodElement). bytes_eq name x.name) c.periods
 
--- the table that a reference names, if it is there: the one that is being created is not
+-- the table that a reference names, if it exists: the one that is being created is not
 abbrev pub parent_of : List TableDef → ReferenceElement → Option TableDef
 parent_of catalog r = table_of_name catalog r.parent
 
@@ -57,7 +57,7 @@ abbrev pub some_own_match : CreateTable → MatchCount → List Name → Bool
 some_own_match c wanted names =
     some_match_among (λ (x : ColumnElement). x.name) c.columns wanted names
 
--- of the columns that a reference names in its parent
+-- some of the names matches the wanted number of the parent's columns
 unfoldable pub some_parent_match : List TableDef → MatchCount → ReferenceElement → Bool
 some_parent_match catalog wanted x =
     passes (λ (t : TableDef). some_def_match t wanted x.parent_columns) (parent_of catalog x)
@@ -77,7 +77,7 @@ unfoldable pub has_sort : CreateTable → ColumnSort → Name → Bool
 has_sort c sort name =
     list_any (λ (x : ColumnElement). bytes_eq name x.name && is_of_sort sort x) c.columns
 
--- how many columns are of the sort
+-- the number of columns of the sort
 unfoldable pub sort_count : CreateTable → ColumnSort → ℕ
 sort_count c sort = count_by (λ (x : ColumnElement). is_of_sort sort x) c.columns
 
@@ -90,21 +90,21 @@ exceeds_limits catalog c =
     || nat_lt most_columns (length c.columns)
     || nat_lt most_references (length c.references)
 
--- 22: a table of this name is there
+-- 22: a table of this name exists
 unfoldable pub is_there : List TableDef → Name → Bool
 is_there catalog name = list_any (λ (t : TableDef). bytes_eq name t.name) catalog
 
--- 23: a reference names a table that is not there
+-- 23: a reference names a table that is missing
 unfoldable pub lacks_parent : List TableDef → CreateTable → Bool
 lacks_parent catalog c =
     list_any (λ (x : ReferenceElement). is_none (parent_of catalog x)) c.references
 
--- 24: a column or a period that isn't there
+-- 24: a column or a period that is missing
 unfoldable pub names_other_period : List TableDef → ReferenceElement → Bool
 names_other_period catalog x =
     passes (λ (t : TableDef). not (bytes_eq x.parent_period t.period.name)) (parent_of catalog x)
 
--- a key or a reference names a period that isn't there, of its own table or of the parent
+-- a key or a reference names a period that is missing, of its own table or of the parent
 unfoldable pub lacks_period : List TableDef → CreateTable → Bool
 lacks_period catalog c =
     list_any (λ (x : KeyElement). is_matching Zero (period_matches c x.period)) c.keys
@@ -116,7 +116,7 @@ lacks_period catalog c =
 unfoldable pub lacks_name : List TableDef → CreateTable → Bool
 lacks_name catalog c = some_match catalog c Zero || lacks_period catalog c
 
--- 25: a column that is named is there more than once
+-- 25: a column that is named is declared more than once
 unfoldable pub is_ambiguous : List TableDef → CreateTable → Bool
 is_ambiguous catalog c = some_match catalog c Many
 
@@ -142,7 +142,7 @@ is_no_value_column c name =
     c.system_periods
     || has_sort c System name
 
--- one of the names is that of a period or system column
+-- one of the names names a period or system column
 unfoldable pub some_no_value : CreateTable → List Name → Bool
 some_no_value c names = list_any (λ name. is_no_value_column c name) names
 
@@ -210,11 +210,11 @@ has_other_period catalog c =
 unfoldable pub is_at : TableDef → ℕ → Name → Bool
 is_at t place name = passes (λ (x : Column). bytes_eq name x.name) (slice_get t.columns place)
 
--- the name is that of a key column
+-- a key column has the name
 unfoldable pub is_key_name : TableDef → Name → Bool
 is_key_name t name = list_any (λ place. is_at t place name) t.key
 
--- one of the names is that of the column at a place
+-- one of the names names the column at a place
 unfoldable pub is_named : TableDef → List Name → ℕ → Bool
 is_named t names place = list_any (λ name. is_at t place name) names
 

@@ -20,7 +20,7 @@ use Rattle.catalog_core.specs.declared.table.ColumnKind.TheVariants as kind
 use Rattle.catalog_core.specs.declared.table.Reference.{Reference}
 use Rattle.catalog_core.specs.declared.table.TableDef.{TableDef}
 
--- what a declared column holds, where its type is not refused
+-- the kind of a declared column, if its type is not refused
 unfoldable pub declared_kind : TypeName → Option Generated → Option ColumnKind
 declared_kind Integer None = Some kind.Integer
 declared_kind Integer (Some side) = None
@@ -32,7 +32,7 @@ declared_kind (Timestamp p) None = None
 declared_kind (Timestamp p) (Some Start) = Some (kind.RowStart p)
 declared_kind (Timestamp p) (Some End) = Some (kind.RowEnd p)
 
--- the place of the column that a name stands for
+-- the place of the column with a name
 abbrev pub own_place : CreateTable → Name → Option ℕ
 own_place c name = place_among (λ (x : ColumnElement). x.name) c.columns name
 
@@ -40,7 +40,7 @@ own_place c name = place_among (λ (x : ColumnElement). x.name) c.columns name
 abbrev pub declared_column : ColumnElement → Name × Option ColumnKind
 declared_column x = (x.name, declared_kind x.kind x.generated)
 
--- the same of a column of the definition
+-- the name and the kind of a column of the definition
 abbrev pub column_parts : Column → Name × Option ColumnKind
 column_parts x = (x.name, Some x.kind)
 
@@ -56,7 +56,7 @@ declared_key c x = map (own_place c) x.columns
 abbrev pub Numbers : Type 0
 Numbers = Option ℕ × List (Option ℕ) × Option (List (Option ℕ))
 
--- of a reference as it is written
+-- the parts of a reference as it is written
 unfoldable pub declared_reference : List TableDef → CreateTable → ReferenceElement → Numbers
 declared_reference catalog c x = (
   number_of catalog x.parent,
@@ -64,7 +64,7 @@ declared_reference catalog c x = (
   option_map (λ (t : TableDef). map (def_place t) x.parent_columns) (parent_of catalog x),
 )
 
--- of a reference of the definition
+-- the parts of a reference of the definition
 abbrev pub reference_parts : Reference → Numbers
 reference_parts r = (Some r.parent, map Some r.own, Some (map Some r.keys))
 

@@ -1,4 +1,4 @@
--- Which definitions a CREATE gives.
+-- The definitions that a CREATE gives.
 use Rattle.std.specs.Prelude.{List}
 use Rattle.period_core.specs.Leasts.{NoneApplies}
 use Rattle.sql_statements.specs.declared.create.CreateTable.{CreateTable}

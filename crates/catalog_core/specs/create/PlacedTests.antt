@@ -1,4 +1,4 @@
--- Tests of a definition by its names and places. It passes them all where some CREATE that is
+-- Tests of a definition by its names and places. It passes them all if some CREATE that is
 -- accepted gives it.
 use Rattle.std.specs.Prelude.{◌==◌, ◌&&◌, ℕ, Bool, true, false, not, List, Option, count_by}
 use Rattle.std.specs.Prelude.{length, nat_le, nat_lt, slice_get}
@@ -48,7 +48,7 @@ has_system_columns d =
     (count_by (λ (x : Column). is_row_start x.kind) d.columns == 1)
     && (count_by (λ (x : Column). is_row_end x.kind) d.columns == 1)
 
--- how often a place is in a list
+-- the number of times that a place is in a list
 abbrev pub place_count : ℕ → List ℕ → ℕ
 place_count place places = count_by (λ other. other == place) places
 
@@ -65,11 +65,11 @@ unfoldable pub is_value_place : TableDef → ℕ → Bool
 is_value_place d place =
     passes (λ (x : Column). is_value_column d (place, x)) (slice_get d.columns place)
 
--- each place is a value column's, and none is there twice
+-- each place is a value column's, and none is given twice
 unfoldable pub are_value_places : TableDef → List ℕ → Bool
 are_value_places d places = not (repeats_place places) && list_all (is_value_place d) places
 
--- the places are those of the key's columns, in some order
+-- the places are where the key's columns are, in some order
 unfoldable pub are_key_places : TableDef → List ℕ → Bool
 are_key_places t places =
     not (repeats_place places)
@@ -94,7 +94,7 @@ refers_to d t r =
     are_value_places d r.own
     && (are_key_places t r.keys && not (have_two_kinds d t r.own r.keys))
 
--- to a table that is there
+-- to a table that exists
 unfoldable pub is_placed_reference : List TableDef → TableDef → Reference → Bool
 is_placed_reference tables d r =
     passes (λ (t : TableDef). is_first_named tables r.parent t && refers_to d t r)

@@ -1,4 +1,4 @@
--- Which tables are a query's: a list for each of its references, of rows of that table.
+-- The tables of a query: a list for each of its references, of rows of that table.
 use Rattle.std.specs.Prelude.{◌==◌, ◌&&◌, ◌+◌, ℕ, Bool, true, false, List, [], ◌∷◌, length}
 use Rattle.std.specs.List.{list_all}
 use Rattle.period_core.specs.declared.row.PeriodRow.{PeriodRow}
@@ -8,7 +8,7 @@ use Rattle.catalog_core.specs.declared.table.ValueKind.{ValueKind}
 use Rattle.catalog_core.specs.query.Queries.{Query, references_of, rows_for}
 use Rattle.catalog_core.specs.table.Kinds.{kind_of_value, same_kind}
 
--- the values are of these kinds, in this order
+-- the values have the kinds given, in order
 abbrev pub has_kinds : List ValueKind → List Value → Bool
 has_kinds [] [] = true
 has_kinds [] (value ∷ values) = false

@@ -23,6 +23,6 @@ abbrev pub references_of : Query → List QueryReference
 references_of (one select) = select.references
 references_of (both operator left right) = references_of left ++ references_of right
 
--- what a reference sees: the list in its place
+-- the rows that a reference sees: the list in its place
 abbrev pub rows_for : List (List PeriodRow) → QueryReference → List PeriodRow
 rows_for tables reference = slice_index_or tables reference.place []

@@ -17,6 +17,6 @@ names_non_value_column t name =
 unfoldable pub value_position : TableDef → Name → Option ℕ
 value_position t name = position (bytes_eq name) (value_names t)
 
--- of a column of the answer
+-- the parts of a column of the answer
 abbrev pub item_parts : AnswerColumn → Option ℕ × Name
 item_parts item = (Some item.position, item.name)

@@ -1,4 +1,5 @@
--- Which versions a stored query shows: those that its window sees and that its condition holds of.
+-- The versions that a stored query shows: those that its window sees and that its condition holds
+-- of.
 use Rattle.std.specs.Prelude.{◌&&◌, ℤ, Bool, true, List, Option, Some, None, filter}
 use Rattle.period_core.specs.PeriodPredicates as period
 use Rattle.period_core.specs.Windows.{window_sees}
@@ -20,7 +21,7 @@ use Rattle.catalog_core.specs.declared.stored.Stored.{Stored}
 use Rattle.catalog_core.specs.declared.stored.VersionTest.{VersionTest}
 use Rattle.catalog_core.specs.declared.stored.VersionTest.TheVariants.{Values, Periods, ContainsDay}
 
--- a side of a period predicate: the version's period, or that of a literal
+-- a side of a period predicate: the version's period, or a literal's
 abbrev pub side_period : VersionRow → PeriodSide → Period
 side_period v Row = v.period
 side_period v (Days days) = days

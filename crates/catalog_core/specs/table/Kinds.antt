@@ -15,7 +15,7 @@ kind_of_value (value.Int n) = Integer
 kind_of_value (value.Text t) = Text
 kind_of_value (value.Date d) = Date
 
--- of a column
+-- the kind of a column
 unfoldable pub kind_of_column : ColumnKind → ValueKind
 kind_of_column kind.Integer = Integer
 kind_of_column (kind.Varchar n) = Text
@@ -23,7 +23,7 @@ kind_of_column kind.Date = Date
 kind_of_column (kind.RowStart p) = Moment
 kind_of_column (kind.RowEnd p) = Moment
 
--- of a column's type as it is written
+-- the kind of a column's type as it is written
 unfoldable pub kind_of_type : TypeName → ValueKind
 kind_of_type type_name.Integer = Integer
 kind_of_type type_name.Date = Date

@@ -1,4 +1,4 @@
--- What the tests of a statement want of a number of matches and of a column.
+-- The wants of a statement's tests: a number of matches, and a kind of column.
 use Rattle.std.specs.Prelude.{◌==◌, ◌&&◌, ℕ, Bool, true, false, not, Option, Some, None, is_some}
 use Rattle.std.specs.Prelude.{nat_lt}
 use Rattle.sql_statements.specs.declared.create.ColumnElement.{ColumnElement}

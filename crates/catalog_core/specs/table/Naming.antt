@@ -4,6 +4,7 @@
 use Rattle.std.specs.Prelude.{ℕ, Bool, false, List, Option, Some, None, bytes_eq, count_by}
 use Rattle.std.specs.Prelude.{find}
 use Rattle.std.specs.List.{list_any, position}
+use Rattle.sql_statements.specs.declared.statement.TableReference.{TableReference}
 use Rattle.catalog_core.specs.table.Matches.{is_matching}
 use Rattle.catalog_core.specs.declared.table.match_counts.MatchCount.{MatchCount}
 use Rattle.catalog_core.specs.declared.table.match_counts.MatchCount.TheVariants.{Many}
@@ -29,11 +30,11 @@ place_among named xs name = position (λ x. bytes_eq name (named x)) xs
 unfoldable pub find_among : {X : Type 0} → (X → Name) → List X → Name → Option X
 find_among named xs name = find (λ x. bytes_eq name (named x)) xs
 
--- how many of the names a name matches
+-- the number of the names that a name matches
 abbrev pub match_count : List Name → Name → ℕ
 match_count names name = matches_among (λ (x : Name). x) names name
 
--- a name stands in the list more than once
+-- a name is in the list more than once
 unfoldable pub repeats : List Name → Bool
 repeats names = list_any (λ name. is_matching Many (match_count names name)) names
 
@@ -41,3 +42,12 @@ repeats names = list_any (λ name. is_matching Many (match_count names name)) na
 abbrev pub passes : {X : Type 0} → (X → Bool) → Option X → Bool
 passes test None = false
 passes test (Some x) = test x
+
+-- a new name, or else the old one
+abbrev pub name_or : Option Name → Name → Name
+name_or None name = name
+name_or (Some new) name = new
+
+-- the name by which a reference is known: a new name hides the table's
+abbrev pub known_name : TableReference → Name
+known_name reference = name_or reference.new_name reference.table

@@ -32,7 +32,7 @@ table_of tables (suc n) = slice_get tables n
 unfoldable pub table_of_name : List TableDef → Name → Option TableDef
 table_of_name catalog name = option_and_then (table_of catalog) (number_of catalog name)
 
--- how many of a table's columns a name matches
+-- the number of a table's columns that a name matches
 abbrev pub def_matches : TableDef → Name → ℕ
 def_matches t name = matches_among (λ (x : Column). x.name) t.columns name
 
@@ -45,13 +45,13 @@ unfoldable pub has_distinct_names : TableDef → Bool
 has_distinct_names t =
     not (list_any (λ (x : Column). is_matching Many (def_matches t x.name)) t.columns)
 
--- the kind of the column that a name stands for
+-- the kind of the column with a name
 unfoldable pub def_kind : TableDef → Name → Option ValueKind
 def_kind t name =
     option_map (λ (x : Column). kind_of_column x.kind)
     (find_among (λ (x : Column). x.name) t.columns name)
 
--- its place among the declared columns
+-- the place of a column among the declared ones
 abbrev pub def_place : TableDef → Name → Option ℕ
 def_place t name = place_among (λ (x : Column). x.name) t.columns name
 
@@ -87,10 +87,10 @@ is_value_column t (place, column) =
 abbrev pub value_columns : TableDef → List (ℕ × Column)
 value_columns t = filter (is_value_column t) (enumerate_from 0 t.columns)
 
--- their names
+-- the names of the value columns
 abbrev pub value_names : TableDef → List Name
 value_names t = map (λ (c : ℕ × Column). c.1.name) (value_columns t)
 
--- how many values a row of the table has
+-- the number of values of a row of the table
 abbrev pub value_count : TableDef → ℕ
 value_count t = length (value_columns t)

@@ -18,7 +18,7 @@ use period_core::{Memory, Value};
 use sql_statements::Name;
 use std::alloc::Global;
 
-/// The values of a definition, in the order in which they stand in its bytes.
+/// The values of a definition, in the order in which its bytes have them.
 pub fn values_of(alloc: Global, definition: &TableDef) -> Result<Vec<Value>, Memory>
     ensures values { IfOk result (λ values. values.items ≡ definition_values definition.now) }
     ensures writable { IfOk result (λ _. is_writable definition.now ≡ true) }

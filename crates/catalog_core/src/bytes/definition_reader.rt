@@ -36,7 +36,7 @@ fn precision_of(number: i64) -> Option<Option<u8>>
     }
 }
 
-/// What a column holds, by the number of its kind and the number after it.
+/// The kind of a column, by the number of the kind and the number after it.
 fn kind_of(kind: i64, number: i64) -> Option<ColumnKind>
     ensures { MatchOption result
         ((k : AnyKind) → is_kind k ≡ true → kind_values k ≡ Int kind ∷ Int number ∷ [] → ⊥)
@@ -54,7 +54,7 @@ fn kind_of(kind: i64, number: i64) -> Option<ColumnKind>
     }
 }
 
-/// What a column holds, and the remaining values.
+/// The kind of a column, and the remaining values.
 fn read_kind(values: &[Value]) -> Result<(ColumnKind, &[Value]), DecodeFault>
     ensures found { IfOk result (λ x. IsFront is_kind kind_values values.now x.0 x.1.now) }
     ensures malformed { IfErr result
@@ -101,7 +101,7 @@ fn read_each_column<'a>(
     Ok((columns, rest))
 }
 
-/// How many columns there are, the columns, and the remaining values.
+/// The number of columns, the columns, and the remaining values.
 fn read_columns<'a>(
     alloc: Global,
     values: &'a [Value],
@@ -132,7 +132,7 @@ fn read_period<'a>(
     Ok((PeriodColumns { name, start, end }, rest))
 }
 
-/// How many columns a key has, their places among `count` columns, and the remaining values.
+/// The number of a key's columns, their places among `count` columns, and the remaining values.
 fn read_key(
     alloc: Global,
     values: &[Value],
@@ -198,7 +198,7 @@ fn read_each_reference(
     Ok((references, rest))
 }
 
-/// How many references there are, the references, and the remaining values.
+/// The number of references, the references, and the remaining values.
 fn read_references(
     alloc: Global,
     values: &[Value],

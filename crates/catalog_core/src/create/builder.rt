@@ -25,14 +25,14 @@ use period_core::{Items, Memory};
 use sql_statements::{ColumnElement, CreateTable, Generated, Name, ReferenceElement, TypeName};
 use std::alloc::Global;
 
-/// The place of the statement's column that a name stands for.
+/// The place of the statement's column with a name.
 fn own_place(create: &CreateTable, name: &Name) -> Option<usize>
     ensures { result ≡ own_place create.now name.now }
 {
     place_among(create.columns.as_slice(), name)
 }
 
-/// The places of the statement's columns that the names stand for.
+/// The places of the statement's columns with the names.
 fn own_places(alloc: Global, create: &CreateTable, names: &[Name]) -> Result<Vec<usize>, Memory>
     requires { some_own_match create.now Zero names.now ≡ false }
     ensures { IfOk result (λ v. map (own_place create.now) names.now ≡ map (λ i. Some i) v.items) }
@@ -40,7 +40,7 @@ fn own_places(alloc: Global, create: &CreateTable, names: &[Name]) -> Result<Vec
     places_among(alloc, create.columns.as_slice(), names)
 }
 
-/// What a declared column holds.
+/// The kind of a declared column.
 #[tactic(auto, unfolding(crate::specs::create::Definition::declared_kind, crate::specs::create::Creation::is_bad_type))]
 fn declared_kind(kind: TypeName, generated: Option<Generated>) -> ColumnKind
     requires { is_bad_type kind (is_some generated) ≡ false }

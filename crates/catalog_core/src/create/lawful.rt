@@ -47,7 +47,7 @@ fn has_system_columns(definition: &TableDef) -> bool
     starts == 1 && ends == 1
 }
 
-/// How often a place is in a list.
+/// The number of times that a place is in a list.
 fn place_count(place: usize, places: &[usize]) -> usize
     ensures { result ≡ place_count place places.now }
 {
@@ -97,7 +97,7 @@ fn are_among(others: &[usize], places: &[usize]) -> bool
     places.iter().all(|place| has_place(others, *place))
 }
 
-/// Whether each place is a value column's, and none is there twice.
+/// Whether each place is a value column's, and none is given twice.
 #[tactic(auto, unfolding(crate::specs::create::PlacedTests::are_value_places))]
 fn are_value_places(definition: &TableDef, places: &[usize]) -> bool
     ensures { result ≡ are_value_places definition.now places.now }
@@ -105,7 +105,7 @@ fn are_value_places(definition: &TableDef, places: &[usize]) -> bool
     !repeats_place(places) && are_value_columns(definition, places)
 }
 
-/// Whether the places are those of the key's columns, in some order.
+/// Whether the places are where the key's columns are, in some order.
 #[tactic(auto, unfolding(crate::specs::create::PlacedTests::are_key_places))]
 fn are_key_places(table: &TableDef, places: &[usize]) -> bool
     ensures { result ≡ are_key_places table.now places.now }
@@ -161,7 +161,7 @@ fn refers_to(child: &TableDef, parent: &TableDef, reference: &Reference) -> bool
         && !have_two_kinds(child, parent, own, keys)
 }
 
-/// Whether it is one to a table that is there, which is known by its name.
+/// Whether it is one to a table that exists, which is known by its name.
 #[tactic(auto, unfolding(crate::specs::create::PlacedTests::is_placed_reference))]
 fn is_placed_reference(catalog: &Catalog, definition: &TableDef, reference: &Reference) -> bool
     ensures { result ≡ is_placed_reference catalog.now.tables definition.now reference.now }

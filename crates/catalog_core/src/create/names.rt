@@ -97,7 +97,7 @@ pub fn exceeds_limits(catalog: &Catalog, create: &CreateTable) -> bool
         || create.references.len() > MOST_REFERENCES
 }
 
-/// Whether a table of this name is there.
+/// Whether a table of this name exists.
 #[tactic(auto, unfolding(crate::specs::create::Creation::is_there))]
 pub fn is_there(catalog: &Catalog, name: &Name) -> bool
     ensures { result ≡ is_there catalog.now.tables name.now }
@@ -110,7 +110,7 @@ pub fn is_there(catalog: &Catalog, name: &Name) -> bool
     false
 }
 
-/// Whether a reference names a table that is not there.
+/// Whether a reference names a table that is missing.
 #[tactic(auto, unfolding(crate::specs::create::Creation::lacks_parent))]
 pub fn lacks_parent(catalog: &Catalog, create: &CreateTable) -> bool
     ensures { result ≡ lacks_parent catalog.now.tables create.now }
@@ -134,7 +134,7 @@ pub fn names_other_period(catalog: &Catalog, reference: &ReferenceElement) -> bo
     }
 }
 
-/// Whether a key or a reference names a period that is not there.
+/// Whether a key or a reference names a period that is missing.
 #[tactic(auto, unfolding(crate::specs::create::Creation::lacks_period))]
 pub fn lacks_period(catalog: &Catalog, create: &CreateTable, counts: &BTreeMap<&str, usize>) -> bool
     requires { AreCounts create.now counts.now }
@@ -158,7 +158,7 @@ pub fn lacks_period(catalog: &Catalog, create: &CreateTable, counts: &BTreeMap<&
     false
 }
 
-/// Whether a column or a period is named that is not there.
+/// Whether a column or a period is named that is missing.
 #[tactic(auto, unfolding(crate::specs::create::Creation::lacks_name))]
 pub fn lacks_name(catalog: &Catalog, create: &CreateTable, counts: &BTreeMap<&str, usize>) -> bool
     requires { AreCounts create.now counts.now }
@@ -167,7 +167,7 @@ pub fn lacks_name(catalog: &Catalog, create: &CreateTable, counts: &BTreeMap<&st
     some_match(catalog, create, MatchCount::Zero) || lacks_period(catalog, create, counts)
 }
 
-/// Whether a column that is named is there more than once.
+/// Whether a column that is named is declared more than once.
 #[tactic(auto, unfolding(crate::specs::create::Creation::is_ambiguous))]
 pub fn is_ambiguous(catalog: &Catalog, create: &CreateTable) -> bool
     ensures { result ≡ is_ambiguous catalog.now.tables create.now }
@@ -175,7 +175,7 @@ pub fn is_ambiguous(catalog: &Catalog, create: &CreateTable) -> bool
     some_match(catalog, create, MatchCount::Many)
 }
 
-/// Whether a name is that of several of the columns and periods.
+/// Whether several of the columns and periods have one name.
 #[tactic(auto, unfolding(crate::specs::create::Creation::is_shared, crate::specs::table::Matches::is_matching))]
 pub fn is_shared(create: &CreateTable, counts: &BTreeMap<&str, usize>, name: &Name) -> bool
     requires { AreCounts create.now counts.now }
@@ -233,7 +233,7 @@ pub fn is_no_value_column(create: &CreateTable, name: &Name) -> bool
     has_sort(create, ColumnSort::System, name)
 }
 
-/// Whether a name is among those of a list.
+/// Whether a name is in a list.
 fn is_among(names: &[Name], name: &Name) -> bool
     ensures { result ≡ list_any (bytes_eq name.now) names.now }
 {

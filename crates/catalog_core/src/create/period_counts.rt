@@ -1,5 +1,5 @@
-//! How many of a statement's periods each name matches: counted once, so that no test goes over all
-//! periods for each of them or for each key.
+//! The number of a statement's periods that each name matches: counted once, so that no test goes
+//! over all periods for each of them or for each key.
 
 ghost use Rattle.std.specs.Prelude.{◌≡◌, IfOk};
 ghost use Rattle.catalog_core.specs.create.PeriodCounts.{AreCounts, count_of};
@@ -24,7 +24,7 @@ pub fn period_counts<'a>(
     Ok(counts)
 }
 
-/// How many periods have a name.
+/// The number of periods that have a name.
 pub fn count_of(counts: &BTreeMap<&str, usize>, name: &Name) -> usize
     ensures { result ≡ count_of counts.now name.now }
 {

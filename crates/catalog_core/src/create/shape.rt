@@ -125,7 +125,7 @@ pub fn has_other_period(catalog: &Catalog, create: &CreateTable) -> bool
     false
 }
 
-/// Whether the name is that of the column at a place.
+/// Whether the column at a place has the name.
 #[tactic(auto, unfolding(crate::specs::create::Creation::is_at))]
 pub fn is_at(table: &TableDef, place: usize, name: &Name) -> bool
     ensures { result ≡ is_at table.now place name.now }
@@ -136,7 +136,7 @@ pub fn is_at(table: &TableDef, place: usize, name: &Name) -> bool
     }
 }
 
-/// Whether a name is that of a key column.
+/// Whether a key column has the name.
 #[tactic(auto, unfolding(crate::specs::create::Creation::is_key_name))]
 pub fn is_key_name(table: &TableDef, name: &Name) -> bool
     ensures { result ≡ is_key_name table.now name.now }

@@ -10,7 +10,7 @@ use crate::table::ValueKind;
 use crate::table::kinds::{kind_of_value, same_kind};
 use period_core::Value;
 
-/// Whether the values are of these kinds, in this order.
+/// Whether the values have the kinds given, in order.
 fn has_kinds(kinds: &[ValueKind], values: &[Value]) -> bool
     ensures { result ≡ has_kinds kinds.now values.now }
 {
@@ -53,7 +53,7 @@ fn all_fit(query: &Query, tables: &Tables) -> bool
     }
 }
 
-/// The place after the references, where their places count up from this one and all are below the
+/// The place after the references, if their places count up from this one and all are below the
 /// bound.
 fn next_place(references: &[QueryReference], place: usize, bound: usize) -> Option<usize>
     requires { place ≤ bound }
@@ -71,7 +71,7 @@ fn next_place(references: &[QueryReference], place: usize, bound: usize) -> Opti
     next_place(more, place + 1, bound)
 }
 
-/// The same of all references of the query.
+/// The next place among all references of the query.
 fn next_place_in_query(query: &Query, place: usize, bound: usize) -> Option<usize>
     requires { place ≤ bound }
     ensures some { IfSome result (λ next.
@@ -94,7 +94,7 @@ fn next_place_in_query(query: &Query, place: usize, bound: usize) -> Option<usiz
 
 /// Whether the tables are the query's: one list for each of its references, each row with the kinds
 /// of that reference. The places of the references count up from 0, as `resolve_query` gives them;
-/// where they do not, no tables are the query's. It takes no memory.
+/// if they do not, no tables are the query's. It takes no memory.
 pub fn fits(query: &Query, tables: &Tables) -> bool
     ensures { result ≡ fits (plain_query query.now) tables.now }
 {

@@ -13,7 +13,7 @@ use std::marker::Model;
 /// A table in FROM, by the table's number.
 #[derive(Drop)]
 pub struct QueryReference {
-    /// Its place among all table references of the query, in the order of the text, from 0.
+    /// The place among all table references of the query, in the order of the text, from 0.
     pub place: usize,
     /// The table's number.
     pub table: u8,
@@ -59,7 +59,7 @@ impl Model for Tables {
 }
 
 impl Tables {
-    /// The tables of these lists.
+    /// The tables of all lists.
     pub fn new(lists: Items<Items<PeriodRow>>) -> Tables
         ensures { result ≡ lists }
     {
@@ -73,7 +73,7 @@ impl Tables {
         self.lists.as_slice()
     }
 
-    /// What a reference sees; nothing, where there is no list in its place.
+    /// The rows that a reference sees; none, if there is no list in its place.
     pub fn rows_for(&self, reference: &QueryReference) -> &[PeriodRow]
         ensures { result.now ≡ rows_for self.now reference.now }
     {

@@ -22,8 +22,8 @@ pub struct Catalog {
     pub ghost distinct: { list_all has_distinct_names tables ≡ true },
 }
 
-/// What a list has of the table of this number, where it has one entry a table, in the order of
-/// their creation.
+/// The entry of a list for the table of this number, if the list has one entry a table, in the
+/// order of their creation.
 pub fn of_number<T>(entries: &[T], number: u8) -> Option<&T>
     ensures { MatchOption result (table_of entries.now number ≡ None)
         (λ entry. table_of entries.now number ≡ Some entry.now) }
@@ -57,7 +57,7 @@ impl Catalog {
         self.tables.push(definition)
     }
 
-    /// How many tables there are.
+    /// The number of tables.
     pub fn len(&self) -> usize
         ensures { result ≡ length self.now.tables }
     {
@@ -89,7 +89,7 @@ impl Catalog {
     }
 
     /// The number and the definition of the table of this name.
-    pub(crate) fn table_named(&self, name: &Name) -> Option<(u8, &TableDef)>
+    pub fn table_named(&self, name: &Name) -> Option<(u8, &TableDef)>
         ensures { MatchOption result (number_of self.now.tables name.now ≡ None)
             (λ found. (number_of self.now.tables name.now ≡ Some found.0)
             × (table_of self.now.tables found.0 ≡ Some found.1.now)) }

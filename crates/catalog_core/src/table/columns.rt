@@ -20,7 +20,7 @@ use period_core::Memory;
 use sql_statements::Name;
 use std::alloc::Global;
 
-/// The place of a table's column that a name stands for.
+/// The place of a table's column with a name.
 pub fn def_place(table: &TableDef, name: &Name) -> Option<usize>
     ensures value { result ≡ def_place table.now name.now }
     ensures small { IfSome result (λ place. place < number_limit) }
@@ -28,7 +28,7 @@ pub fn def_place(table: &TableDef, name: &Name) -> Option<usize>
     place_among(table.columns.as_slice(), name)
 }
 
-/// The places of a table's columns that the names stand for.
+/// The places of a table's columns with the names.
 pub fn def_places(alloc: Global, table: &TableDef, names: &[Name]) -> Result<Vec<usize>, Memory>
     requires { some_def_match table.now Zero names.now ≡ false }
     ensures value { IfOk result

@@ -1,4 +1,4 @@
-//! How many columns and periods a name matches, and of which sort they are.
+//! The number of columns and periods that a name matches, and their sorts.
 
 ghost use Rattle.std.specs.Prelude.{◌≡◌, ◌∷◌, []};
 ghost use Rattle.catalog_core.specs.create.Creation.{has_sort, own_matches, some_own_match};
@@ -11,14 +11,14 @@ use crate::table::TableDef;
 use crate::table::named::{matches_among, some_match_among};
 use sql_statements::{ColumnElement, CreateTable, Generated, Name, TypeName};
 
-/// How many columns a test wants a name to match: none, or more than one.
+/// The number of columns that a test wants a name to match: none, or more than one.
 #[derive(Clone, Copy)]
 pub enum MatchCount {
     Zero,
     Many,
 }
 
-/// What a test wants of a column.
+/// The kind of column that a test wants.
 #[derive(Clone, Copy)]
 pub enum ColumnSort {
     System,
@@ -68,28 +68,28 @@ impl ColumnSort {
     }
 }
 
-/// How many of the statement's columns a name matches.
+/// The number of the statement's columns that a name matches.
 pub fn own_matches(create: &CreateTable, name: &Name) -> usize
     ensures { result ≡ own_matches create.now name.now }
 {
     matches_among(create.columns.as_slice(), name)
 }
 
-/// How many of a table's columns.
+/// The number of a table's columns that a name matches.
 pub fn def_matches(table: &TableDef, name: &Name) -> usize
     ensures { result ≡ def_matches table.now name.now }
 {
     matches_among(table.columns.as_slice(), name)
 }
 
-/// How many of a list of names.
+/// The number of a list's names that a name matches.
 pub fn match_count(names: &[Name], name: &Name) -> usize
     ensures { result ≡ match_count names.now name.now }
 {
     matches_among(names, name)
 }
 
-/// How many columns are of the sort.
+/// The number of columns of the sort.
 #[tactic(auto, unfolding(crate::specs::create::Creation::sort_count))]
 pub fn sort_count(create: &CreateTable, sort: ColumnSort) -> usize
     ensures { result ≡ sort_count create.now sort }
@@ -138,7 +138,7 @@ pub fn has_sort(create: &CreateTable, sort: ColumnSort, name: &Name) -> bool
     false
 }
 
-/// Whether some name stands in the list twice.
+/// Whether some name is in the list twice.
 #[tactic(auto, unfolding(crate::specs::table::Naming::repeats))]
 pub fn repeats(names: &[Name]) -> bool
     ensures { result ≡ repeats names.now }

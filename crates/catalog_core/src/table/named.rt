@@ -1,8 +1,10 @@
-//! What has a name: how many elements of a list a name matches, the first of them, and its place.
+//! Named things: the number of elements of a list that a name matches, the first of them, and its
+//! place.
 
 ghost use Rattle.std.specs.Prelude.{◌≡◌, ◌<◌, ℕ, IfOk, IfSome, List, Some, false, length, map};
 ghost use Rattle.std.specs.Prelude.{option_copied, true};
 ghost use Rattle.catalog_core.specs.table.IsDefinition.{are_places};
+ghost use Rattle.catalog_core.specs.table.Naming as naming;
 ghost use Rattle.catalog_core.specs.table.Naming.{find_among, matches_among, place_among};
 ghost use Rattle.catalog_core.specs.table.Naming.{some_match_among};
 ghost use Rattle.catalog_core.specs.declared.table.match_counts.MatchCount.TheVariants.{Zero};
@@ -10,14 +12,14 @@ ghost use Rattle.catalog_core.specs.declared.table.match_counts.MatchCount.TheVa
 use crate::table::Column;
 use crate::table::match_counts::MatchCount;
 use period_core::Memory;
-use sql_statements::{ColumnElement, Name};
+use sql_statements::{ColumnElement, Name, TableReference};
 use std::alloc::Global;
 
-/// What has a name.
+/// A thing that has a name.
 pub trait Named {
     ghost named: { Self → List ℕ };
 
-    /// Its name.
+    /// The name of the thing.
     fn name(&self) -> &Name
         ensures { result.now ≡ named self.now };
 }
@@ -46,7 +48,34 @@ impl Named for Column {
     }
 }
 
-/// How many elements a name matches.
+/// A new name, or else the old one.
+pub fn name_or<'a>(new: &'a Option<Name>, name: &'a Name) -> &'a Name
+    ensures { result.now ≡ naming.name_or new.now name.now }
+{
+    match new {
+        Some(new) => new,
+        None => name,
+    }
+}
+
+/// The name by which a reference is known.
+pub fn known_name(reference: &TableReference) -> &Name
+    ensures { result.now ≡ naming.known_name reference.now }
+{
+    name_or(&reference.new_name, &reference.table)
+}
+
+impl<'a> Named for &'a TableReference {
+    ghost use Rattle.catalog_core.specs.table.Naming.{known_name};
+
+    ghost named = { λ r. known_name r.now };
+
+    fn name(&self) -> &Name {
+        known_name(*self)
+    }
+}
+
+/// The number of elements that a name matches.
 #[tactic(auto, unfolding(crate::specs::table::Naming::matches_among))]
 pub fn matches_among<T: Named>(elements: &[T], name: &Name) -> usize
     ensures { result ≡ matches_among T.named elements.now name.now }

@@ -17,7 +17,7 @@ impl BalancedTree {
         BalancedTree::balanced(fork)
     }
 
-    /// The same on the right.
+    /// The fork with this tree on the right.
     pub(super) fn with_right(mut fork: Box<Fork>, right: BalancedTree) -> BalancedTree
         requires { DifferByAtMost 2 fork.value.left.height right.height }
         ensures rows { result.rows ≡ fork.value.left.rows ++ fork.value.row ∷ right.rows }
@@ -42,7 +42,7 @@ impl BalancedTree {
         }
     }
 
-    /// The same where the left side is higher by two.
+    /// Turns a fork whose left side is higher by two.
     fn rotated_right(mut lower: Box<Fork>) -> BalancedTree
         requires { lower.value.left.height ≡ lower.value.right.height + 2 }
         ensures rows { result.rows ≡ (fork_tree lower.value).rows }
@@ -58,7 +58,7 @@ impl BalancedTree {
         BalancedTree::joined(upper)
     }
 
-    /// The same where the right side is higher by two.
+    /// Turns a fork whose right side is higher by two.
     fn rotated_left(mut lower: Box<Fork>) -> BalancedTree
         requires { lower.value.right.height ≡ lower.value.left.height + 2 }
         ensures rows { result.rows ≡ (fork_tree lower.value).rows }
@@ -74,7 +74,7 @@ impl BalancedTree {
         BalancedTree::joined(upper)
     }
 
-    // The fork, or where its right side is the higher, the fork of that above it.
+    // The fork, or if its right side is the higher, the fork of that above it.
     fn leaning_left(mut upper: Box<Fork>) -> Box<Fork>
         requires { DifferByAtMost 1 upper.value.left.height upper.value.right.height }
         ensures rows { (fork_tree result.value).rows ≡ (fork_tree upper.value).rows }
@@ -95,7 +95,7 @@ impl BalancedTree {
         middle
     }
 
-    // The same with the sides changed.
+    // The fork leans to the right.
     fn leaning_right(mut upper: Box<Fork>) -> Box<Fork>
         requires { DifferByAtMost 1 upper.value.left.height upper.value.right.height }
         ensures rows { (fork_tree result.value).rows ≡ (fork_tree upper.value).rows }

@@ -95,7 +95,7 @@ impl BalancedTree {
         }
     }
 
-    /// The fork of the first row, and the tree of the others.
+    /// The fork of the first row, and the tree of the rest.
     fn split_first(self) -> Option<(Box<Fork>, BalancedTree)>
         ensures rows { MatchOption result (self.rows ≡ [])
             (λ parts. self.rows ≡ parts.0.value.row ∷ parts.1.rows) }

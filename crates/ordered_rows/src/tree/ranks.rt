@@ -1,4 +1,4 @@
-//! Where a row is or would be: its rank, the number of the rows before it.
+//! The rank of a row, or of the place where it would be: the number of the rows before it.
 
 ghost use Rattle.std.specs.Prelude.{◌≡◌, ◌<◌, ◌≤◌, ◌+◌, IfOk, drop, length, min, take};
 ghost use Rattle.sqlite_trees.specs.Tree.{from_key, up_to_key};

@@ -1,5 +1,5 @@
--- What a sequenced query is answered from: the rows that its table references see, and the columns
--- of its answer.
+-- The rows that a sequenced query is answered from, as its table references see them, and the
+-- columns of its answer.
 use Rattle.std.specs.Prelude.{◌≡◌, ◌↔◌, ℕ, ℤ, List, IsPermutation, Some, map, true}
 use Rattle.std.specs.List.{AllByRecursion, AllZip}
 use Rattle.period_core.specs.declared.row.PeriodRow.{PeriodRow}
@@ -12,7 +12,7 @@ use Rattle.catalog_core.specs.declared.query.resolved.QueryReference.{QueryRefer
 use Rattle.catalog_core.specs.declared.table.TableDef.{TableDef}
 use Rattle.catalog_core.specs.query.Fitting.{are_in_place}
 use Rattle.catalog_core.specs.query.Queries.{Query, both, one, references_of}
-use Rattle.catalog_core.specs.query.Resolving.{value_kinds}
+use Rattle.statement_resolution.specs.query.Resolving.{value_kinds}
 use Rattle.catalog_core.specs.table.TableWords.{table_of}
 use Rattle.ended_versions.specs.Packed.{seen_through}
 use Rattle.history_model.specs.Histories.{History}

@@ -7,7 +7,7 @@ use Rattle.period_core.specs.declared.row.PeriodRow.{PeriodRow}
 use Rattle.sql_statements.specs.Trees.{Statement}
 use Rattle.catalog_core.specs.declared.query.resolved.QueryReference.{QueryReference}
 use Rattle.catalog_core.specs.query.Queries.{Query, references_of, rows_for}
-use Rattle.catalog_core.specs.query.Resolving.{ResolvesQuery}
+use Rattle.statement_resolution.specs.query.Resolving.{ResolvesQuery}
 use Rattle.history_model.specs.Histories.{History, catalog_of}
 use Rattle.history_model.specs.OrdinaryQuery.{InAnswerOn, InAnswerOver}
 use Rattle.snapshot_audit.specs.ChangeDays.{seen_lists}
@@ -37,7 +37,7 @@ HaveSeenRows history query tables =
     (reference : QueryReference) → Contains (references_of query) reference
     → SeesRows history reference (rows_for tables reference)
 
--- the verdict is that of an audit of the answer over these lists
+-- the verdict is an audit's of the answer over the lists
 abbrev pub IsVerdictOver : Query → List (List PeriodRow) → Answer → Verdict → Type 0
 IsVerdictOver query tables answer =
     IsVerdict (InAnswerOver query tables) (seen_lists query tables) answer.rows answer.witnesses
@@ -78,7 +78,7 @@ pub record AuditedStep (history : History) (s : Statement) (entry : Entry) (new 
     pub step : Step history s entry.result new
     pub audit : HasAudit history s entry.result entry.audit
 
--- and what the engine then holds is what the new history says
+-- a statement with its audit leads to an engine that is what the new history says
 abbrev pub AuditedStepsTo
     : {S : Type 0} → Ghosts S → History → Statement → Entry → EngineState S → Type 0
 AuditedStepsTo g history s entry = RepresentsSome g (AuditedStep history s entry)

@@ -1,4 +1,4 @@
--- What an engine has in memory of the versions that have ended.
+-- The versions in an engine's memory that have ended.
 use Rattle.std.specs.Prelude.{◌≡◌, ◌<ℤ◌, ◌≤ℤ◌, ◌++◌, ℕ, ℤ, AllPairs, Bool, Contains, List, []}
 use Rattle.std.specs.Prelude.{IsPermutation, filter, map, not}
 use Rattle.std.specs.List.{All}
@@ -27,7 +27,7 @@ abbrev pub SomeEndedAfter : ℤ → List VersionRow → Type 0
 SomeEndedAfter moment versions =
     (version : VersionRow) × Contains versions version × (moment <ℤ version.to)
 
--- the same of a version of a table
+-- a version of a table has ended
 abbrev pub table_ended : TableVersion → Bool
 table_ended version = not (int_eq version.to forever)
 
@@ -46,7 +46,7 @@ pub record HasEnded (c : Contents) (table : ℕ) (list : List PackedVersion) : T
   pub held : Hold list versions
   pub all : IsPermutation (ended_of table c.versions) (map (version_in table) versions)
 
--- so it is of each table
+-- each table has its ended versions
 abbrev pub HaveEnded : Contents → List (List PackedVersion) → Type 0
 HaveEnded c lists = (number : ℕ) → HasEnded c number (ended_in lists number)
 
@@ -54,7 +54,7 @@ HaveEnded c lists = (number : ℕ) → HasEnded c number (ended_in lists number)
 abbrev pub AllEndedBy : ℤ → List (List PackedVersion) → Type 0
 AllEndedBy moment = All (AreEndedBy moment)
 
--- these versions were added to the list of a table, and no other list changed
+-- the versions were added to the list of a table, and no other list changed
 pub record HaveClosed (number : ℕ) (more : List VersionRow) (old new : List (List PackedVersion))
     : Type 0 where
   pub held : AreOfColumns more

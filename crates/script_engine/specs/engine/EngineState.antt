@@ -1,4 +1,4 @@
--- What an engine keeps: its connection, and in memory the tables, the clock and all versions.
+-- The state of an engine: its connection, and in memory the tables, the clock and all versions.
 use Rattle.std.specs.Prelude.{ℤ, List, refl}
 use Rattle.std.specs.Coded.{Coded, code_by, coded×, coded_list}
 use Rattle.catalog_core.specs.declared.table.catalog.Catalog.{Catalog}
@@ -18,7 +18,7 @@ pub record EngineState (S : Type 0) : Type 0 where
   pub tables : List RowsByKey
   pub ended : List (List PackedVersion)
 
--- what its store keeps
+-- the state of its store
 abbrev pub store_of : {S : Type 0} → EngineState S → StoreState S
 store_of engine =
     record { connection = engine.connection; catalog = engine.catalog; clock = engine.clock }
@@ -34,7 +34,7 @@ engine_of store tables ended = record {
   ended = ended;
 }
 
--- its form for the model: the store, and after it the versions
+-- the model's form of it: the store, and after it the versions
 abbrev pub engine_state_code : {S : Type 0} → Coded S → Coded (EngineState S)
 engine_state_code {S} store =
     code_by (StoreState S × (List RowsByKey × List (List PackedVersion)))

@@ -1,4 +1,4 @@
--- Which fault a change is refused with, and what keys and references ask of a store's contents.
+-- The fault with which a change is refused, and the demands of keys and references on contents.
 use Rattle.std.specs.Prelude.{ℤ, List, filter, map}
 use Rattle.period_core.specs.declared.refusal.Refusal.{Refusal}
 use Rattle.period_core.specs.declared.refusal.Refusal.TheVariants.{KeyOverlap, PeriodReference}
@@ -12,7 +12,7 @@ use Rattle.period_keys.specs.Lawful.{IsKeyFault, IsLawfulState, IsReferenceFault
 use Rattle.version_store.specs.Contents.{Contents, TableVersion}
 use Rattle.version_store.specs.Scans.{seen_of}
 
--- 42 with the least day on which the change lets two rows of its table share the key; where there
+-- 42 with the least day on which the change lets two rows of its table share the key; if there
 -- is none, 43 with the least day on which it leaves a row of some table without its parent, by any
 -- reference
 abbrev pub IsFault : List TableDef → State → Change → Refusal → Type 0
@@ -23,7 +23,7 @@ IsFault catalog before change (PeriodReference day) =
     × IsLeastDay (IsReferenceFault catalog before change) day
 IsFault catalog before change _ = ⊥
 
--- what the current versions of contents hold on each day
+-- the current versions of contents on each day
 abbrev pub current_state : Contents → State
 current_state c table day =
     map (λ (v : TableVersion). v.values)

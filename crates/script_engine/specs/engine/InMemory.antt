@@ -1,4 +1,4 @@
--- What an engine has in memory: the current rows of each table, and what a refusal leaves of them.
+-- The current rows of each table in an engine's memory, and what a refusal leaves of them.
 use Rattle.std.specs.Prelude.{◌≡◌, ℕ, List, [], IsPermutation, Some, length, map}
 use Rattle.std.specs.Option.{option_map_or}
 use Rattle.period_core.specs.declared.row.PeriodRow.{PeriodRow}
@@ -34,7 +34,7 @@ pub record AreReadOf (c : Contents) (tables : List TableDef) (lists : List (List
 abbrev pub rows_in : List RowsByKey → ℕ → List VersionRow
 rows_in tables number = option_map_or (λ (t : RowsByKey). t.rows) (table_of tables number) []
 
--- these are the rows' keys by the positions of the table of a number
+-- the rows' keys by the positions of the table of a number
 abbrev pub AreKeysIn : List RowsByKey → ℕ → List PeriodRow → List (List Value) → Type 0
 AreKeysIn tables number rows keys =
     (table : RowsByKey) → table_of tables number ≡ Some table
@@ -64,7 +64,7 @@ pub record FollowCatalog (catalog : List TableDef) (tables : List TableRows) : T
   pub count : length tables ≡ length catalog
   pub indexed : HaveIndexes catalog tables
 
--- what is in memory is as it was: the catalog, the clock, of each table the current rows, in any
+-- the memory is as it was: the catalog, the clock, of each table the current rows, in any
 -- order, and the versions that have ended
 pub record IsSameInMemory {S : Type 0} (old new : EngineState S) : Type 0 where
   pub catalog : new.catalog.tables ≡ old.catalog.tables

@@ -1,5 +1,5 @@
--- What a store and a database of the model have both kept in whole seconds, and that moving it to
--- microseconds gives the same of both. The law is the contract of a function of this crate.
+-- Moves of a store and of a database of the model, both kept in whole seconds, to microseconds:
+-- both come to one. The law is the contract of a function of this crate.
 use Rattle.std.specs.Prelude.{◌≡◌, ℕ, map, IsPermutation}
 use Rattle.version_tables.specs.declared.form.Form.TheVariants.{Seconds}
 use Rattle.version_store.specs.Contents.{Contents, of_table, version_in}
@@ -15,7 +15,7 @@ pub record AreOfDatabase (database : Database) (c : Contents) : Type 0 where
   pub versions : (table : ℕ) → IsPermutation (of_table table c.versions)
       (map (version_in table) (versions_in database table))
 
--- what the store has, in microseconds, is what the moved database keeps
+-- the store's contents, in microseconds, are those that the moved database keeps
 abbrev pub StoresMoveAsTheModel : Type 0
 StoresMoveAsTheModel =
     (database : Database) (c : Contents) → AreOfDatabase database c

@@ -1,10 +1,13 @@
--- What a query needs of what its table references see: enough that it gives the same.
-use Rattle.std.specs.Prelude.{◌≡◌, ◌++◌, ◌+◌, ℕ, ℤ, List, [], ◌∷◌, length}
+-- The rows that a query needs of those that its table references see: enough that it gives the
+-- same.
+use Rattle.std.specs.Prelude.{◌≡◌, ◌++◌, ◌+◌, ℕ, ℤ, Bool, Contains, List, [], ◌∷◌, length, map}
+use Rattle.std.specs.Prelude.{true}
 use Rattle.std.specs.Option.{option_map_or}
 use Rattle.period_core.specs.declared.row.PeriodRow.{PeriodRow}
 use Rattle.period_core.specs.declared.value.Value.{Value}
 use Rattle.period_core.specs.declared.version.VersionRow.{VersionRow}
-use Rattle.period_keys.specs.Rows.{RowsByKey, rows_of_key}
+use Rattle.period_keys.specs.declared.key_range.KeyRange.{KeyRange}
+use Rattle.period_keys.specs.Rows.{RowsByKey, rows_within}
 use Rattle.sql_statements.specs.declared.tree.Tree.{Tree}
 use Rattle.catalog_core.specs.declared.condition.CompareValues.{CompareValues}
 use Rattle.catalog_core.specs.declared.query.resolved.QueryReference.{QueryReference}
@@ -12,12 +15,25 @@ use Rattle.catalog_core.specs.query.Queries.{Query, both, one}
 use Rattle.catalog_core.specs.table.TableWords.{table_of}
 use Rattle.history_model.specs.Histories.{History}
 use Rattle.history_model.specs.OrdinaryQuery.{VisibleInHistory}
+use Rattle.history_model.specs.Versions.{row_of}
 use Rattle.sequenced_ops.specs.Planning.{IsPruned}
 
--- the rows in memory of this key, of the table of a number; of a number without a table none
-abbrev pub keyed_rows_in : List RowsByKey → ℕ → List Value → List VersionRow
-keyed_rows_in tables number key =
-    option_map_or (λ (t : RowsByKey). rows_of_key t key) (table_of tables number) []
+-- the rows in memory whose keys are in the range, of the table of a number; of a number without a
+-- table none
+abbrev pub ranged_rows_in : List RowsByKey → ℕ → KeyRange → List VersionRow
+ranged_rows_in tables number range =
+    option_map_or (λ (t : RowsByKey). rows_within t range) (table_of tables number) []
+
+-- some versions are of these, and lack none that passes the test
+pub record LackNone (test : VersionRow → Bool) (all some : List VersionRow) : Type 0 where
+  pub within : (v : VersionRow) → Contains some v → Contains all v
+  pub whole : (v : VersionRow) → test v ≡ true → Contains all v → Contains some v
+
+-- the new rows are the old ones, followed by those of such versions
+abbrev pub AddLackingNone
+    : (VersionRow → Bool) → List VersionRow → List PeriodRow → List PeriodRow → Type 0
+AddLackingNone test all old new =
+    (some : List VersionRow) × LackNone test all some × (new ≡ old ++ map row_of some)
 
 -- all that the reference sees in the history has `width` values
 abbrev pub SeesWidth : History → QueryReference → ℕ → Type 0
@@ -32,7 +48,7 @@ abbrev pub IsNeeded
 IsNeeded history conjuncts start reference =
     IsPruned conjuncts start (λ day. VisibleInHistory history day reference)
 
--- so it is of each of the references, one after the other in the combined row
+-- each of the references sees what it needs, one after the other in the combined row
 abbrev pub SeeNeeded
     : History → List (Tree CompareValues) → ℕ → List QueryReference → List (List PeriodRow)
     → Type 0
@@ -44,7 +60,7 @@ SeeNeeded history conjuncts start (reference ∷ references) (rows ∷ lists) =
     × ((width : ℕ) × SeesWidth history reference width
     × SeeNeeded history conjuncts (start + width) references lists)
 
--- and of each select of a query
+-- each select of a query sees what it needs
 abbrev pub IsNeededBy : History → Query → List (List PeriodRow) → Type 0
 IsNeededBy history (one select) lists =
     SeeNeeded history select.conjuncts 0 select.references lists

@@ -7,7 +7,8 @@ use Rattle.history_model.specs.Histories.{History}
 use Rattle.version_tables.specs.Making.{HasCounters}
 use Rattle.version_tables.specs.Presence.{HasNoStoreTable}
 use Rattle.version_store.specs.GoodStore.{IsGoodStore}
-use Rattle.version_store.specs.StoreState.{IsMadeBehind, IsOurs, IsUsable, SparesOthers}
+use Rattle.version_store.specs.StoreState.{IsCreatedAfter, IsUsable}
+use Rattle.version_store.specs.StoreState.{OwnTablesAreWellFormed, SparesOthers}
 use Rattle.script_engine.specs.engine.EngineState.{EngineState}
 use Rattle.script_engine.specs.engine.Faults.{AreConstrained}
 use Rattle.script_engine.specs.engine.Stored.{DatabaseRepresents, EngineRepresents, WasUsable}
@@ -19,19 +20,19 @@ pub record Opens {S : Type 0} (g : Ghosts S) (connection : Held S) (engine : Eng
   pub represents : IsUsable g engine.connection
       → (history : History) → DatabaseRepresents history (state g connection).now
       → EngineRepresents g history engine
-  -- where the tables are the store's, it is a good store, and so one of some history
-  pub good : IsUsable g engine.connection → IsOurs (state g connection).now.schema
+  -- if the tables are the store's, it is a good store, and so one of some history
+  pub good : IsUsable g engine.connection → OwnTablesAreWellFormed (state g connection).now.schema
       → HasNoStoreTable (state g connection).now.schema
       ⊎ (IsGoodStore AreConstrained (state g connection).now
       × ((history : History) × EngineRepresents g history engine))
-  -- where there was none, a new store is made after the tables of others, which keep their rows:
+  -- if there was none, a new store is made after the tables of others, which keep their rows:
   -- without tables, at the first moment
   pub beside : IsUsable g engine.connection
       → HasNoStoreTable (state g connection).now.schema
       → HasCounters (state g connection).now.schema
-      → IsMadeBehind (state g connection) (state g engine.connection)
+      → IsCreatedAfter (state g connection) (state g engine.connection)
   pub empty : HasNoStoreTable (state g connection).now.schema
       → (engine.catalog.tables ≡ []) × (engine.clock ≡ first_moment)
-  -- what others have after the store's tables they keep
+  -- others keep what they have after the store's tables
   pub others : SparesOthers g connection engine.connection
   pub usable : WasUsable g connection engine.connection

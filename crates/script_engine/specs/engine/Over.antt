@@ -1,4 +1,4 @@
--- What a statement does over an engine whatever its database holds: by the catalog and the clock in
+-- A statement over an engine whatever its database holds: by the catalog and the clock in
 -- memory alone.
 use Rattle.std.specs.Prelude.{◌≡◌, ◌++◌, ◌∷◌, [], IfErr, OnErr, OnOk, Result}
 use Rattle.period_core.specs.Leasts.{NoneApplies}
@@ -19,7 +19,7 @@ use Rattle.statement_reports.specs.declared.outcome.Outcome.{Outcome}
 abbrev pub IsAsDefined : {S : Type 0} → EngineState S → EngineState S → Type 0
 IsAsDefined old new = (new.catalog.tables ≡ old.catalog.tables) × (new.clock ≡ old.clock)
 
--- the catalog and the clock that follow where a statement is accepted: AT moves the clock, CREATE
+-- the catalog and the clock that follow if a statement is accepted: AT moves the clock, CREATE
 -- adds the definition that it gives, and every other statement leaves both
 abbrev pub Follows : {S : Type 0} → EngineState S → Statement → EngineState S → Type 0
 Follows old (statement.at moment) new =
@@ -46,7 +46,7 @@ pub record StepOver {S : Type 0} (g : Ghosts S) (old : EngineState S) (s : State
   pub refused : IfErr result (MayRefuseOver old.catalog.tables old.clock s)
   pub memory : OnErr result (IsSameInMemory old new)
   pub none_stored : StaysOnErr g old.connection new.connection result
-  -- or accepted
+  -- a statement that is accepted
   pub accepted : OnOk result (AcceptsOver old s new)
   -- the connection was usable before if it is so now
   pub usable : WasUsable g old.connection new.connection

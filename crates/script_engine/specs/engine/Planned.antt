@@ -4,8 +4,10 @@ use Rattle.period_core.specs.Leasts.{MayAnswer, NoneApplies}
 use Rattle.period_core.specs.declared.refusal.Refusal.{Refusal}
 use Rattle.sql_statements.specs.Trees.{Statement}
 use Rattle.catalog_core.specs.RefusalConditions.{Holds}
-use Rattle.catalog_core.specs.change.Resolution.{IsChange, ResolvesChange, change_conditions}
-use Rattle.catalog_core.specs.change.Resolution.{empty_period, has_empty_row}
+use Rattle.statement_resolution.specs.change.Resolution.{IsChange, ResolvesChange}
+use Rattle.statement_resolution.specs.change.Resolution.{change_conditions}
+use Rattle.statement_resolution.specs.change.Resolution.{empty_period}
+use Rattle.catalog_core.specs.change.EmptyRows.{has_empty_row}
 use Rattle.catalog_core.specs.declared.change.Action.{Action}
 use Rattle.catalog_core.specs.declared.change.Action.TheVariants.{Delete, Insert, Update}
 use Rattle.catalog_core.specs.declared.change.Change.{Change}
@@ -16,14 +18,14 @@ use Rattle.history_model.specs.Versions.{PlainVersion}
 use Rattle.statement_reports.specs.declared.outcome.Word.{Word}
 use Rattle.statement_reports.specs.declared.outcome.Word.TheVariants as word
 
--- what is done by an action
+-- the word of a change by an action
 abbrev pub word_of : Action → Word
 word_of (Insert given) = word.Insert
 word_of (Update portion assignments condition) = word.Update
 word_of (Delete portion condition) = word.Delete
 
--- what is counted of an action over a table's versions: the rows that INSERT gives; the current
--- versions that UPDATE or DELETE touches, also where the values that are set were there before
+-- the count of an action over a table's versions: the rows that INSERT gives; the current
+-- versions that UPDATE or DELETE touches, also if the values that are set were there before
 abbrev pub count_of : Action → List PlainVersion → ℕ
 count_of (Insert given) versions = length given
 count_of (Update portion assignments condition) versions =
@@ -31,13 +33,13 @@ count_of (Update portion assignments condition) versions =
 count_of (Delete portion condition) versions =
     length (touched_rows (Delete portion condition) versions)
 
--- how many rows of a plan are counted
+-- the number of rows of a plan that are counted
 abbrev pub planned_count : Action → Plan → ℕ
 planned_count (Insert given) plan = length plan.added
 planned_count (Update portion assignments condition) plan = length plan.ended
 planned_count (Delete portion condition) plan = length plan.ended
 
--- what a statement of this word is resolved to over a catalog: the change that it makes, where none
+-- the resolution of a statement of this word over a catalog: the change that it makes, if none
 -- of its conditions holds (that of an empty row is left to the rows that are given); or else a
 -- refusal, the least whose condition holds, or out of memory
 pub record IsResolved

@@ -1,6 +1,6 @@
--- Which outcomes a statement may have in a history, and which history follows.
+-- The outcomes that a statement may have in a history, and the history that follows.
 use Rattle.std.specs.Prelude.{◌≡◌, ◌⊎◌, ◌<◌, ◌<ℤ◌, ◌≤ℤ◌, ◌++◌, ◌∷◌, ℤ, [], Result, Ok, Err}
-use Rattle.std.specs.Prelude.{ℕ, IfErr, List, Some, int_lt, map}
+use Rattle.std.specs.Prelude.{List, Some, int_lt, map}
 use Rattle.period_core.specs.Codes.{code_of}
 use Rattle.period_core.specs.Leasts.{MayAnswer, NoneApplies}
 use Rattle.period_core.specs.Moments.{forever}
@@ -16,11 +16,12 @@ use Rattle.sql_statements.specs.Trees as statement
 use Rattle.catalog_core.specs.create.Creation.{create_conditions}
 use Rattle.catalog_core.specs.create.Definition.{Defines}
 use Rattle.catalog_core.specs.RefusalConditions.{Holds}
-use Rattle.catalog_core.specs.change.Resolution.{IsChange, ResolvesChange, change_conditions}
-use Rattle.catalog_core.specs.change.Resolution.{empty_period}
+use Rattle.statement_resolution.specs.change.Resolution.{IsChange, ResolvesChange}
+use Rattle.statement_resolution.specs.change.Resolution.{change_conditions}
+use Rattle.statement_resolution.specs.change.Resolution.{empty_period}
 use Rattle.catalog_core.specs.query.Queries.{Query}
-use Rattle.catalog_core.specs.query.Resolving.{ResolvesQuery, query_conditions}
-use Rattle.catalog_core.specs.stored.StoredQueries.{ResolvesStored, stored_conditions}
+use Rattle.statement_resolution.specs.query.Resolving.{ResolvesQuery, query_conditions}
+use Rattle.statement_resolution.specs.stored.StoredQueries.{ResolvesStored, stored_conditions}
 use Rattle.catalog_core.specs.table.TableWords.{table_of}
 use Rattle.history_model.specs.Histories.{Advanced, Queried, Changed, Created, History}
 use Rattle.history_model.specs.Histories.{catalog_of, clock_of, last_state, with_event}
@@ -30,10 +31,8 @@ use Rattle.period_keys.specs.Lawful.{IsLawfulChange}
 use Rattle.sqlite.specs.Store.{Ghosts}
 use Rattle.sqlite.specs.Held.{state}
 use Rattle.version_tables.specs.Steps.{HasFault}
-use Rattle.version_tables.specs.Healthy.{IsHealthy}
-use Rattle.version_store.specs.Contents.{Contents}
-use Rattle.version_store.specs.StoreState.{IsStoreRefusal, IsUsable, StoreRepresents}
-use Rattle.script_engine.specs.engine.EngineState.{EngineState, store_of}
+use Rattle.version_store.specs.StoreState.{IsStoreRefusal}
+use Rattle.script_engine.specs.engine.EngineState.{EngineState}
 use Rattle.script_engine.specs.engine.Stored.{RepresentsSome}
 use Rattle.catalog_core.specs.declared.change.Change.{Change}
 use Rattle.catalog_core.specs.declared.query.AnswerColumn.{AnswerColumn}
@@ -75,8 +74,8 @@ StatementApplies history = AppliesOver (catalog_of history) (clock_of history)
 abbrev pub NoneBeforeStore : (Refusal → Type 0) → Type 0
 NoneBeforeStore Applies = (refusal : Refusal) → Applies refusal → 40 < code_of refusal
 
--- what a statement may be refused with: the least, or out of memory in its place; another failure
--- of the database only where no condition of 1 to 31 or 40 holds
+-- the refusals that a statement may get: the least, or out of memory in its place; another failure
+-- of the database only if no condition of 1 to 31 or 40 holds
 abbrev pub MayRefuse : (Refusal → Type 0) → Refusal → Type 0
 MayRefuse Applies refusal =
     MayAnswer Applies refusal ⊎ ((refusal ≡ Store) × NoneBeforeStore Applies)
@@ -87,8 +86,8 @@ IsConstraintRefusal (KeyOverlap day) = Unit {0}
 IsConstraintRefusal (PeriodReference day) = Unit {0}
 IsConstraintRefusal _ = ⊥
 
--- what a statement may be refused with whatever the database holds, over the catalog and the clock
--- in memory: by a condition of its own; a change of which none of 1 to 41 holds also with 42 or 43
+-- the refusals that a statement may get whatever the database holds, over the catalog and the clock
+-- in memory: by a condition of its own; a change of which none of 1 to 41 holds also 42 or 43
 abbrev pub MayRefuseOver : List TableDef → ℤ → Statement → Refusal → Type 0
 MayRefuseOver catalog clock s refusal =
     MayRefuse (AppliesOver catalog clock s) refusal
@@ -100,7 +99,7 @@ IsQuery (statement.sequenced q) = Unit {0}
 IsQuery (statement.stored q) = Unit {0}
 IsQuery _ = ⊥
 
--- what a query of an engine that represents a history may be refused with: by a condition of its
+-- the refusals that a query of an engine that represents a history may get: by a condition of its
 -- own, or out of memory; or there was a fault of the database
 abbrev pub MayRefuseQuery : {S : Type 0} → Ghosts S → EngineState S → EngineState S → Statement
     → Refusal → Type 0
@@ -108,16 +107,7 @@ MayRefuseQuery g old new s refusal =
     MayAnswer (AppliesOver old.catalog.tables old.clock s) refusal
     ⊎ HasFault (state g old.connection) (state g new.connection)
 
--- over a healthy database, with room for so many versions more, 62 comes of a fault of the database
-abbrev pub FailsOnFault : {S X : Type 0} → Ghosts S → EngineState S → EngineState S
-    → Result X Refusal → ℕ → Type 0
-FailsOnFault g old new result count =
-    IsUsable g new.connection → (c : Contents) → StoreRepresents g (store_of old) c
-    → IsHealthy count (state g old.connection).now
-    → IfErr result (λ refusal. refusal ≡ Store
-    → HasFault (state g old.connection) (state g new.connection))
-
--- what a moment may be refused with: 13 for FOREVER, 40 for one before the clock, and only for a
+-- the refusals that a moment may get: 13 for FOREVER, 40 for one before the clock, and only for a
 -- later one out of memory or another failure of the database
 abbrev pub MayRefuseMoment : ℤ → ℤ → Refusal → Type 0
 MayRefuseMoment clock moment refusal =
@@ -133,7 +123,7 @@ pub record IsUnlawful (history : History) (s : Statement) (refusal : Refusal) : 
   pub resolved : ResolvesChange (catalog_of history) s change
   pub fault : IsFault (catalog_of history) (last_state history) change refusal
 
--- what a statement may be refused with: by a condition of its own; a change also by its fault
+-- the refusals that a statement may get: by a condition of its own; a change also by its fault
 abbrev pub MayRefuseStatement : History → Statement → Refusal → Type 0
 MayRefuseStatement history (statement.insert i) refusal =
     MayRefuse (StatementApplies history (statement.insert i)) refusal
@@ -163,7 +153,7 @@ pub record Creates
   pub done : outcome ≡ Done word.Create 0
   pub after : new ≡ with_event history (Created definition)
 
--- a change is made as it is resolved, at the clock, where it is lawful; the history as it was tells
+-- a change is made as it is resolved, at the clock, if it is lawful; the history as it was tells
 -- what is counted
 pub record Changes
     (history : History)
@@ -207,7 +197,7 @@ pub record Shows
   pub rows : AreShown query versions list.rows
   pub after : new ≡ with_event history Queried
 
--- what follows where no condition of a refusal holds
+-- the outcomes of a statement of which no condition of a refusal holds
 abbrev pub Accepts : History → Statement → Outcome → History → Type 0
 Accepts history (statement.at moment) outcome new = Advances history moment outcome new
 Accepts history (statement.create c) outcome new = Creates history c outcome new

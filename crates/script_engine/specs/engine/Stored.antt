@@ -1,4 +1,4 @@
--- What an engine holds: what a history says, the versions in any order.
+-- The contents of an engine: those that a history says, the versions in any order.
 use Rattle.std.specs.Prelude.{◌≡◌, ◌⊎◌, ℕ, List, map, IsPermutation, OnErr, Result}
 use Rattle.period_core.specs.declared.refusal.Refusal.{Refusal}
 use Rattle.period_core.specs.declared.version.VersionRow.{VersionRow}
@@ -9,7 +9,7 @@ use Rattle.version_tables.specs.Presence.{HasNoStoreTable}
 use Rattle.version_tables.specs.Tables.{no_schema}
 use Rattle.version_tables.specs.declared.form.Form.{Form}
 use Rattle.version_store.specs.Contents.{Contents, TableVersion, of_table, version_in}
-use Rattle.version_store.specs.GoodStore.{AreGood, IsGoodStore, NothingMore}
+use Rattle.version_store.specs.GoodStore.{AreGood, IsGoodStore, NoExtraCondition}
 use Rattle.version_store.specs.StoreState.{IsUsable, StoreRepresents}
 use Rattle.version_store.specs.Units.{in_microseconds}
 use Rattle.version_store.specs.Written.{HasIn}
@@ -33,14 +33,14 @@ pub record HoldsTable (history : History) (versions : List TableVersion) (table 
 
 -- the contents are what the history says: its clock, its tables and, in any order, its versions
 pub record AreOfHistory (history : History) (c : Contents) : Type 0 where
-  -- it is one that statements make: AT goes forward, and each change is made at the clock
+  -- the history is one that statements make: AT goes forward, and each change is made at the clock
   pub order : IsInOrder history
   pub clock : c.clock ≡ clock_of history
   pub tables : c.tables ≡ catalog_of history
   pub versions : (table : ℕ) → HoldsTable history c.versions table
   -- a store may have them: the clock is below FOREVER, the tables are lawful, and each version has
-  -- the values of a row of a table that is there, and is recorded up to the clock
-  pub good : AreGood NothingMore c
+  -- the values of a row of a table that exists, and is recorded up to the clock
+  pub good : AreGood NoExtraCondition c
   -- in the last state no two rows of a table share its key on any day, and each child row has its
   -- parent
   pub lawful : IsLawfulState (catalog_of history) (last_state history)
@@ -76,7 +76,7 @@ abbrev pub RepresentsSome : {S : Type 0} → Ghosts S → (History → Type 0) �
 RepresentsSome g Holds engine =
     (history : History) × Holds history × EngineRepresents g history engine
 
--- the database is what the history says, where its moments are counted in microseconds, of
+-- the database is what the history says, if its moments are counted in microseconds, of
 -- whichever form it is; one without tables is a new store
 abbrev pub DatabaseRepresents : History → Database → Type 0
 DatabaseRepresents history db =
@@ -92,7 +92,7 @@ IsBadStore db = (¬ HasNoStoreTable db.schema) × ¬ IsGoodStore AreConstrained 
 abbrev pub WasUsable : {S : Type 0} → Ghosts S → Held S → Held S → Type 0
 WasUsable g old new = IsUsable g new → IsUsable g old
 
--- where a call is refused, the catalog, the clock and the versions are as they were, in memory and
+-- if a call is refused, the catalog, the clock and the versions are as they were, in memory and
 -- in the database
 abbrev pub KeepsOnErr : {S X : Type 0} → Ghosts S → EngineState S → EngineState S
     → Result X Refusal → Type 0

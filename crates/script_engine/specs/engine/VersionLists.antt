@@ -33,7 +33,7 @@ cell_of_kind Integer position = Value position
 cell_of_kind (Varchar n) position = Value position
 cell_of_kind Date position = Value position
 
--- the cell of a column that is declared at a place, where its value has this position
+-- the cell of a column that is declared at a place, if its value has this position
 abbrev pub cell_at : TableDef → ℕ → ColumnKind → ℕ → Cell
 cell_at t place kind position =
     if place == t.period.start then Start

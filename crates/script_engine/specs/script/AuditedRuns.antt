@@ -20,11 +20,11 @@ AuditedPieceStep history piece entry new =
     ⊎ ((s : Statement) × NoneApplies (TextApplies piece) × IsStatement piece s
     × AuditedStep history s entry new)
 
--- the entries are those of the script's pieces, from the opening on
+-- the entries are of the script's pieces, from the opening on
 abbrev pub IsAuditedRunFrom : History → List ℕ → List Entry → Type 0
 IsAuditedRunFrom = IsRunBy AuditedPieceStep
 
--- their results
+-- the results of the entries
 abbrev pub results_of : List Entry → List (Result Outcome Refusal)
 results_of entries = map (λ (entry : Entry). entry.result) entries
 

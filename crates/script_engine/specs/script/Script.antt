@@ -1,4 +1,4 @@
--- The results of a script: those of its pieces, one after the other, from an opening on.
+-- The results of a script, piece after piece, from an opening on.
 use Rattle.std.specs.Prelude.{◌≡◌, ◌<◌, ◌≤◌, ◌⊎◌, ◌∷◌, ℕ, List, [], Result, Err, length}
 use Rattle.std.specs.Str.{IsUtf8}
 use Rattle.period_core.specs.Leasts.{MayAnswer, NoneApplies}
@@ -63,7 +63,7 @@ StepPieces {H} IsStep old (piece ∷ pieces) (result ∷ results) new =
 StepPieces IsStep old [] (result ∷ results) new = ⊥
 StepPieces IsStep old (piece ∷ pieces) [] new = ⊥
 
--- those of a run
+-- the pieces of a run
 abbrev pub RunPieces
     : History → List (List Lexeme) → List (Result Outcome Refusal) → History → Type 0
 RunPieces = StepPieces PieceStep
@@ -81,18 +81,18 @@ ScriptApplies script (BadToken offset) =
     (length script ≤ most_bytes) × IsUtf8 script × StopsAt script offset
 ScriptApplies script other = ⊥
 
--- which refusals a whole script may get
+-- the refusals that a whole script may get
 abbrev pub MayRefuseScript : List ℕ → Refusal → Type 0
 MayRefuseScript script refusal = MayAnswer (ScriptApplies script) refusal
 
--- which refusals a run of a whole script may get: those, and, of a script that none of them applies
--- to, those of the store that is opened
+-- the refusals that a run of a whole script may get: its own, and, of a script that none of them
+-- applies to, those of the store that is opened
 abbrev pub MayRefuseRun : List ℕ → Refusal → Type 0
 MayRefuseRun script refusal =
     MayRefuseScript script refusal
     ⊎ (IsOpenRefusal refusal × NoneApplies (ScriptApplies script))
 
--- which refusals it may get over a new store: that is never a bad one
+-- the refusals that it may get over a new store, which is never a bad one
 abbrev pub MayRefuseNewRun : List ℕ → Refusal → Type 0
 MayRefuseNewRun script refusal =
     MayRefuseScript script refusal
@@ -105,7 +105,7 @@ pub record IsCutInto (script : List ℕ) (pieces : List (List Lexeme)) : Type 0 
   pub lexed : TokensOf script tokens
   pub parted : HasPieces tokens pieces
 
--- the results are those of the script's pieces, from the opening on, each by such a step
+-- the results are of the script's pieces, from the opening on, each by such a step
 pub record IsRunBy {H R : Type 0} (IsStep : H → List Lexeme → R → H → Type 0)
     (opening : H) (script : List ℕ) (results : List R) : Type 0 where
   pub pieces : List (List Lexeme)
@@ -113,7 +113,7 @@ pub record IsRunBy {H R : Type 0} (IsStep : H → List Lexeme → R → H → Ty
   pub last : H
   pub run : StepPieces IsStep opening pieces results last
 
--- those of a run
+-- a run from a history
 abbrev pub IsRunFrom : History → List ℕ → List (Result Outcome Refusal) → Type 0
 IsRunFrom = IsRunBy PieceStep
 

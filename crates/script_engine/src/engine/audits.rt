@@ -1,39 +1,53 @@
-//! Statements that are run with an audit of their answer, over the rows that were seen for it.
+//! Statements that are run with an audit of their answer. A query is answered as without one; the
+//! checker gets all rows that its references see, whatever the answer was made from.
 
-ghost use Rattle.std.specs.Prelude.{◌≡◌, IfErr, IfOk};
+ghost use Rattle.std.specs.Prelude.{◌≡◌, IfErr, map};
 ghost use Rattle.catalog_core.specs.query.Queries.{plain_query as plain_resolved};
-ghost use Rattle.history_model.specs.Histories.{History};
+ghost use Rattle.history_model.specs.Histories.{History, catalog_of};
+ghost use Rattle.history_model.specs.OrdinaryQuery.{InAnswerOn};
+ghost use Rattle.period_keys.specs.Current.{rows_by_key};
 ghost use Rattle.sql_statements.specs.Plain.{plain, plain_query};
 ghost use Rattle.sql_statements.specs.Trees as statement;
 ghost use Rattle.version_store.specs.StoreState.{IsUsable, SparesOthers};
-ghost use Rattle.script_engine.specs.engine.Audits.{AuditedStepsTo, IsVerdictOver};
+ghost use Rattle.script_engine.specs.Headline.{IsSequencedAnswer};
+ghost use Rattle.script_engine.specs.engine.Answering.{IsOfCatalog};
+ghost use Rattle.script_engine.specs.engine.Audits.{AuditedStepsTo, IsAuditOf};
+ghost use Rattle.script_engine.specs.engine.Healthy.{StatementFailsOnFault};
 ghost use Rattle.script_engine.specs.engine.Over.{StepOver};
 ghost use Rattle.script_engine.specs.engine.Runs.{IsQuery, MayRefuseQuery};
-ghost use Rattle.script_engine.specs.engine.Stored.{EngineRepresents, KeepsOnErr};
+ghost use Rattle.script_engine.specs.engine.Stored.{EngineRepresents, KeepsOnErr, RowsRepresent};
 
 use crate::engine::Engine;
-use crate::engine::sequenced_queries::answered;
-use catalog_core::resolve_sequenced;
-use catalog_core::resolved::{Query, Tables};
+use crate::engine::needed::answer_query;
+use crate::engine::sequenced_queries::tables_of;
+use catalog_core::resolved::Query;
+use ended_versions::EndedVersions;
 use period_core::{Answer, Refusal};
+use period_keys::TableIndex;
 use snapshot_audit::{Verdict, audit};
 use sql_statements::{QueryTree, SelectDistinct, Statement, StatementForm};
 use sqlite_trees::store::Alter;
 use statement_reports::{Entry, Outcome};
+use statement_resolution::resolve_sequenced;
 use std::alloc::Global;
 
-/// What an audit says of an answer over what the references of its query saw.
+/// Audits the answer of a query, over all that its references see in memory.
 fn audit_of(
     alloc: Global,
+    tables: &[TableIndex],
+    ended: &[EndedVersions],
     query: &Query,
-    tables: &Tables,
     answer: &Answer,
 ) -> Result<Verdict, Refusal>
-    ensures verdict { IfOk result
-        (IsVerdictOver (plain_resolved query.now) tables.now answer.now) }
+    ensures confirms { (history : History)
+        → RowsRepresent history (map rows_by_key tables.now) ended.now
+        → IsOfCatalog (catalog_of history) (plain_resolved query.now)
+        → IsSequencedAnswer (InAnswerOn history (plain_resolved query.now)) answer.now
+        → IsAuditOf history (plain_resolved query.now) answer.now result }
     ensures memory { IfErr result (λ refusal. refusal ≡ Refusal.Memory) }
 {
-    let verdict = audit(alloc, query, tables, answer)?;
+    let seen = tables_of(alloc, tables, ended, query)?;
+    let verdict = audit(alloc, query, &seen, answer)?;
     Ok(verdict)
 }
 
@@ -57,11 +71,11 @@ impl<S: Alter> Engine<S> {
             Ok(query) => query,
             Err(refusal) => return Entry::unaudited(Err(refusal)),
         };
+        let catalog = self.store.catalog();
         let tables = self.tables.as_slice();
-        let ended = self.ended.as_slice();
-        match answered(alloc, tables, ended, &query) {
-            Ok((answer, seen)) => {
-                let audit = audit_of(alloc, &query, &seen, &answer);
+        match answer_query(alloc, catalog, tables, &mut self.ended, &query) {
+            Ok(answer) => {
+                let audit = audit_of(alloc, tables, self.ended.as_slice(), &query, &answer);
                 Entry {
                     result: Ok(Outcome::Answer(answer)),
                     audit: Some(audit),
@@ -81,11 +95,15 @@ impl<S: Alter> Engine<S> {
             → AuditedStepsTo S.Store history (plain statement.now) result self.new }
         ensures kept { KeepsOnErr S.Store self.old self.new result.result }
 
-        // A query is refused with 62 only where there was a fault of the database.
+        // A query is refused with 62 only if there was a fault of the database.
         ensures queries { IsUsable S.Store self.new.connection
             → (history : History) → EngineRepresents S.Store history self.old
             → IsQuery (plain statement.now)
             → IfErr result.result (MayRefuseQuery S.Store self.old self.new (plain statement.now)) }
+
+        // Over a healthy database with room for what the statement adds, 62 comes of a fault alone.
+        ensures why { StatementFailsOnFault S.Store self.old (plain statement.now) result.result
+            self.new }
 
         // And whatever the database holds:
         ensures over { StepOver S.Store self.old (plain statement.now) result.result self.new }

@@ -1,5 +1,5 @@
-//! Versions that have ended, chained by their keys before a query that may look for them so: what
-//! no query looks for by key costs the changes that end it nothing.
+//! Ended versions, chained by their keys before a query that may look for them by key. Chaining is
+//! lazy: a change never pays for it.
 
 ghost use Rattle.std.specs.Prelude.{◌≡◌};
 
@@ -22,7 +22,8 @@ fn chain_table(alloc: Global, ended: &mut Vec<EndedVersions>, number: u8) -> Res
     }
 }
 
-/// The same of the tables of these references, but for those that see what is current alone.
+/// Chains the ended versions of the tables of these references; not for references without a
+/// window.
 fn chain_references(
     alloc: Global,
     ended: &mut Vec<EndedVersions>,
@@ -38,8 +39,8 @@ fn chain_references(
     Ok(())
 }
 
-/// The same of the tables that a sequenced query sees in the past, in each select with conditions:
-/// others fix no key.
+/// Chains the ended versions of the tables that a sequenced query sees in the past, in each select
+/// with conditions: without conditions no key is fixed.
 pub fn chain_sequenced(
     alloc: Global,
     ended: &mut Vec<EndedVersions>,
@@ -57,7 +58,8 @@ pub fn chain_sequenced(
     }
 }
 
-/// The same of the table of a stored query, where it sees the past and has a condition.
+/// Chains the ended versions of the table of a stored query, if it sees the past and has a
+/// condition.
 pub fn chain_stored(
     alloc: Global,
     ended: &mut Vec<EndedVersions>,

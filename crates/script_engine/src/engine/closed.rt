@@ -2,7 +2,7 @@
 //! it.
 
 ghost use Rattle.std.specs.Prelude.{◌≡◌, ◌++◌, ◌∷◌, [], IfErr, IfOk, IfSome, IsPermutation, List};
-ghost use Rattle.std.specs.Prelude.{None, OnErr, OnOk, map};
+ghost use Rattle.std.specs.Prelude.{None, OnErr, OnOk, length, map};
 ghost use Rattle.ended_versions.specs.Packed.{AreEndedBy, AreOfColumns, Hold, PackedVersion};
 ghost use Rattle.ended_versions.specs.Packed.{closed_at, packed};
 ghost use Rattle.period_core.specs.declared.version.VersionRow.{VersionRow as Version};
@@ -14,11 +14,12 @@ ghost use Rattle.period_keys.specs.Lawful.{key_positions};
 ghost use Rattle.period_keys.specs.Rows.{RowsByKey};
 ghost use Rattle.period_keys.specs.TableRows.{HasTableRows};
 ghost use Rattle.period_keys.specs.Versions.{begun};
-ghost use Rattle.version_store.specs.Changed.{planned};
+ghost use Rattle.version_store.specs.Changed.{CanMake, planned};
 ghost use Rattle.version_store.specs.Contents.{Contents};
 ghost use Rattle.version_store.specs.DistinctKeys.{HaveDistinctKeys};
-ghost use Rattle.version_store.specs.StoreState.{Changes, IsStoreRefusal, IsUsable};
-ghost use Rattle.version_store.specs.StoreState.{SparesOthers, StaysOnErr, StoreRepresents};
+ghost use Rattle.version_store.specs.StoreState.{Changes, FailsForReason, IsStoreRefusal};
+ghost use Rattle.version_store.specs.StoreState.{IsUsable, SparesOthers, StaysOnErr};
+ghost use Rattle.version_store.specs.StoreState.{StoreRepresents};
 ghost use Rattle.script_engine.specs.engine.Ended.{AreInOrderOfEnds, SomeEndedAfter};
 ghost use Rattle.script_engine.specs.engine.InMemory.{FollowCatalog};
 ghost use Rattle.script_engine.specs.engine.Stored.{WasUsable};
@@ -34,7 +35,7 @@ use version_store::VersionStore;
 
 /// Makes what `apply_plan` makes, and adds the versions that the plan ends to those of the table
 /// that have ended. On `Err` nothing is changed.
-pub fn apply_closing<S: Alter>(
+pub fn apply_change<S: Alter>(
     alloc: Global,
     store: &mut VersionStore<S>,
     table: &mut TableIndex,
@@ -65,12 +66,14 @@ pub fn apply_closing<S: Alter>(
     ensures indexed { table.new.indexed ≡ table.old.indexed }
 
     // Of the versions that have ended:
-    ensures closed { OnOk result
+    ensures appended { OnOk result
         (ended.new ≡ ended.old ++ map packed (closed_at store.old.clock plan.now.ended)) }
-    ensures held { OnOk result (AreOfColumns (closed_at store.old.clock plan.now.ended)) }
-    ensures open { OnErr result (ended.new ≡ ended.old) }
-    ensures before { AreEndedBy store.old.clock ended.new }
+    ensures column_values { OnOk result (AreOfColumns (closed_at store.old.clock plan.now.ended)) }
+    ensures unchanged { OnErr result (ended.new ≡ ended.old) }
+    ensures ended_by_clock { AreEndedBy store.old.clock ended.new }
     ensures named { IfErr result IsStoreRefusal }
+    ensures why { FailsForReason S.Store store.old store.new result (length plan.now.added)
+        (CanMake number store.old.clock plan.now.ended plan.now.added) }
 {
     let count = ended.len();
     ended.close_all(alloc, plan.ended.as_slice(), store.clock())?;
@@ -112,8 +115,8 @@ pub fn add_versions(
     ensures none { OnErr result
         ((map rows_by_key tables.new.items ≡ map rows_by_key tables.old.items)
         × FollowCatalog catalog.now.tables tables.new.items) }
-    ensures closed { OnOk result (ended.new.items ≡ ended.old.items ++ [] ∷ []) }
-    ensures open { OnErr result (ended.new.items ≡ ended.old.items) }
+    ensures appended { OnOk result (ended.new.items ≡ ended.old.items ++ [] ∷ []) }
+    ensures unchanged { OnErr result (ended.new.items ≡ ended.old.items) }
 {
     ended.push(no_versions(alloc, definition)?)?;
     match add_index(alloc, catalog, tables, definition) {
@@ -152,7 +155,7 @@ fn in_order_of_ends(mut versions: Vec<VersionRow>) -> Result<Vec<VersionRow>, Me
 }
 
 /// The list, which has none yet, of versions that have ended, if all did so by a moment.
-pub fn listed(
+pub fn load_ended(
     alloc: Global,
     mut list: EndedVersions,
     versions: Vec<VersionRow>,

@@ -8,13 +8,13 @@ ghost use Rattle.period_core.specs.declared.version.VersionRow.{VersionRow as Ve
 ghost use Rattle.period_keys.specs.Lawful.{key_positions};
 ghost use Rattle.period_keys.specs.Rows.{HasRows};
 ghost use Rattle.version_store.specs.Contents.{Contents, rows_of_table};
-ghost use Rattle.version_store.specs.GoodStore.{AreGood, NothingMore};
+ghost use Rattle.version_store.specs.GoodStore.{AreGood, NoExtraCondition};
 ghost use Rattle.version_store.specs.StoreState.{IsStoreRefusal};
 ghost use Rattle.script_engine.specs.engine.Ended.{AllEndedBy, HaveEnded, SomeEndedAfter};
 ghost use Rattle.script_engine.specs.engine.Ended.{has_ended, is_current};
 ghost use Rattle.script_engine.specs.engine.InMemory.{AreReadOf, HaveCurrentRows};
 
-use crate::engine::closed::{listed, no_versions};
+use crate::engine::closed::{load_ended, no_versions};
 use catalog_core::{Catalog, TableDef};
 use ended_versions::EndedVersions;
 use period_core::{Items, Memory, Moment, Refusal, VersionRow};
@@ -42,7 +42,7 @@ fn add_each(alloc: Global, current: &mut CurrentRows, rows: Vec<VersionRow>) -> 
 }
 
 /// The versions in two lists: the current ones, and those that have ended.
-fn parted(
+fn split_by_end(
     alloc: Global,
     versions: Vec<VersionRow>,
 ) -> Result<(Vec<VersionRow>, Vec<VersionRow>), Memory>
@@ -82,9 +82,9 @@ fn load_table(
 {
     let mut rows = no_rows(alloc, table)?;
     let none = no_versions(alloc, table)?;
-    let (current, ended) = parted(alloc, versions.into_vec())?;
+    let (current, ended) = split_by_end(alloc, versions.into_vec())?;
     add_each(alloc, &mut rows, current)?;
-    let found = listed(alloc, none, ended, clock)?;
+    let found = load_ended(alloc, none, ended, clock)?;
     match found {
         Some(list) => Ok((rows, list)),
         None => Err(Refusal::Store),
@@ -120,10 +120,12 @@ pub fn load(
         → IfOk result (λ found. HaveEnded c found.1.items) }
     ensures before { IfOk result (λ found. AllEndedBy clock found.1.items) }
     ensures why { (c : Contents) → AreReadOf c catalog.now.tables lists.items
-        → AreGood NothingMore c → c.clock ≡ clock
+        → AreGood NoExtraCondition c → c.clock ≡ clock
         → IfErr result (λ refusal. refusal ≡ OutOfMemory) }
     ensures count { IfOk result
         (λ found. length found.0.items ≡ length catalog.now.tables) }
+    ensures ended_count { IfOk result
+        (λ found. length found.1.items ≡ length catalog.now.tables) }
     ensures some { OnErr result (catalog.now.tables ≡ [] → ⊥) }
     ensures named { IfErr result IsStoreRefusal }
 {

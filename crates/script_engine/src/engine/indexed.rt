@@ -2,7 +2,7 @@
 //! together with it.
 
 ghost use Rattle.std.specs.Prelude.{◌≡◌, ◌++◌, ◌∷◌, [], IfErr, IfOk, IsPermutation, List};
-ghost use Rattle.std.specs.Prelude.{MatchOption, None, OnErr, OnOk, Some, map};
+ghost use Rattle.std.specs.Prelude.{MatchOption, None, OnErr, OnOk, Some, length, map};
 ghost use Rattle.catalog_core.specs.create.Lawful.{IsLawful};
 ghost use Rattle.catalog_core.specs.declared.table.TableDef.{TableDef as Definition};
 ghost use Rattle.catalog_core.specs.table.TableWords.{table_of};
@@ -15,13 +15,13 @@ ghost use Rattle.period_keys.specs.Lawful.{key_positions};
 ghost use Rattle.period_keys.specs.Rows.{RowsByKey};
 ghost use Rattle.period_keys.specs.TableRows.{HasTableRows};
 ghost use Rattle.period_keys.specs.Versions.{begun};
-ghost use Rattle.version_store.specs.Changed.{planned};
+ghost use Rattle.version_store.specs.Changed.{CanMake, planned};
 ghost use Rattle.version_store.specs.Contents.{Contents};
 ghost use Rattle.version_store.specs.DistinctKeys.{HaveDistinctKeys};
 ghost use Rattle.version_store.specs.GoodStore.{AreGood, AreLawful};
-ghost use Rattle.version_store.specs.StoreState.{Changes, IsOpenRefusal, IsStoreRefusal};
-ghost use Rattle.version_store.specs.StoreState.{IsUsable, SparesOthers, StaysOnErr};
-ghost use Rattle.version_store.specs.StoreState.{StoreRepresents};
+ghost use Rattle.version_store.specs.StoreState.{Changes, FailsForReason, IsOpenRefusal};
+ghost use Rattle.version_store.specs.StoreState.{IsStoreRefusal, IsUsable, SparesOthers};
+ghost use Rattle.version_store.specs.StoreState.{StaysOnErr, StoreRepresents};
 ghost use Rattle.script_engine.specs.engine.Ended.{AllEndedBy, HaveEnded};
 ghost use Rattle.script_engine.specs.engine.Faults.{AreConstrained};
 ghost use Rattle.script_engine.specs.engine.InMemory.{AreReadOf, FollowCatalog, HaveCurrentRows};
@@ -59,7 +59,7 @@ pub fn positions_of_number(tables: &[TableIndex], number: u8) -> &[usize]
 }
 
 /// Adds a table without rows, of a definition that the catalog does not have yet, with the indexes
-/// that its references need. On an error no table is added, and those that are there have the same
+/// that its references need. On an error no table is added, and those that exist have the same
 /// rows.
 pub fn add_index(
     alloc: Global,
@@ -94,7 +94,7 @@ pub fn remove_last(tables: &mut Vec<TableIndex>)
 }
 
 /// The tables of a catalog with their current rows, and the versions of each that have ended, by
-/// the lists that were read of a store. Where two current rows share a key on some day, or a child
+/// the lists that were read of a store. If two current rows share a key on some day, or a child
 /// row has no parent, the store is refused as a bad one. A store without tables is not refused.
 pub fn load_lawful(
     alloc: Global,
@@ -109,6 +109,7 @@ pub fn load_lawful(
     ensures ended { (c : Contents) → AreReadOf c catalog.now.tables lists.items
         → IfOk result (λ found. HaveEnded c found.1.items) }
     ensures before { IfOk result (λ found. AllEndedBy clock found.1.items) }
+    ensures count { IfOk result (λ found. length found.1.items ≡ length catalog.now.tables) }
     ensures lawful { (c : Contents) → AreReadOf c catalog.now.tables lists.items
         → OnOk result (AreConstrained c) }
     ensures bad { (c : Contents) → AreReadOf c catalog.now.tables lists.items
@@ -155,6 +156,8 @@ pub fn apply_plan<S: Alter>(
     ensures distinct { IsUsable S.Store store.new.connection
         → (c : Contents) → StoreRepresents S.Store store.old c
         → OnOk result (HaveDistinctKeys c.versions) }
+    ensures why { FailsForReason S.Store store.old store.new result (length plan.now.added)
+        (CanMake number store.old.clock plan.now.ended plan.now.added) }
 
     // The rows that the plan ends go, and those that it adds come.
     ensures made { (stay : List Version)

@@ -2,7 +2,7 @@
 //! table and to it.
 
 ghost use Rattle.std.specs.Prelude.{◌≡◌, ◌⊎◌, IfErr, IfOk, IsTrue, OnOk, Some, map};
-ghost use Rattle.catalog_core.specs.change.Resolution.{has_empty_row};
+ghost use Rattle.catalog_core.specs.change.EmptyRows.{has_empty_row};
 ghost use Rattle.catalog_core.specs.declared.change.Change.{Change as ChangeModel};
 ghost use Rattle.catalog_core.specs.declared.table.TableDef.{TableDef as Definition};
 ghost use Rattle.catalog_core.specs.table.TableWords.{table_of};
@@ -24,7 +24,7 @@ use std::alloc::Global;
 /// The plan of a lawful change, and the keys of the rows that it adds.
 #[derive(Drop)]
 pub struct LawfulPlan {
-    /// What the change ends and adds.
+    /// The versions that the change ends, and the rows that it adds.
     pub plan: Plan,
     /// The keys of the added rows, row by row.
     pub keys: Vec<Key>,
@@ -71,9 +71,9 @@ fn judge_plan(
     }
 }
 
-/// The plan of a change over its table's current rows, where the change is lawful. The values of
+/// The plan of a change over its table's current rows, if the change is lawful. The values of
 /// the rows that an INSERT gives are those of the plan. The keys of the added rows are those by
-/// which they were judged. The change is refused where such a row has a period without a day; with
+/// which they were judged. The change is refused if such a row has a period without a day; with
 /// the least day on which it breaks its table's key, or else a reference; and else only out of
 /// memory.
 pub fn lawful_plan(

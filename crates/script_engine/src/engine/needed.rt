@@ -1,10 +1,9 @@
-//! What the table references of a query have to see: of the current rows in memory those that can
-//! be part of a combined row that meets the conditions of their select. So a query whose conditions
-//! fix a key looks at the rows of that key alone.
+//! The rows that the table references of a query have to see: of the current rows in memory those
+//! that can be part of a combined row that meets the conditions of their select. So a query whose
+//! conditions leave a range of keys looks at the rows of these keys alone.
 
 ghost use Rattle.std.specs.Prelude.{◌≡◌, ◌++◌, IfErr, IfOk, List, OnOk, Some, length, map};
-ghost use Rattle.std.specs.Prelude.{Contains, ℕ, true};
-ghost use Rattle.catalog_core.specs.declared.condition.CompareValues.{CompareValues};
+ghost use Rattle.std.specs.Prelude.{Contains};
 ghost use Rattle.catalog_core.specs.declared.query.AnswerColumn.{AnswerColumn as Item};
 ghost use Rattle.catalog_core.specs.declared.table.TableDef.{TableDef as Definition};
 ghost use Rattle.catalog_core.specs.query.Queries.{plain_query};
@@ -16,10 +15,7 @@ ghost use Rattle.period_core.specs.declared.refusal.Refusal.TheVariants.{Memory 
 ghost use Rattle.period_core.specs.declared.row.PeriodRow.{PeriodRow as Row};
 ghost use Rattle.period_core.specs.declared.version.VersionRow.{VersionRow as Version};
 ghost use Rattle.period_keys.specs.Current.{rows_by_key};
-ghost use Rattle.period_keys.specs.FixedKeys.{FixesKeyWithin};
-ghost use Rattle.period_keys.specs.Rows.{RowsByKey};
 ghost use Rattle.sequenced_ops.specs.Planning.{IsPruned};
-ghost use Rattle.sql_statements.specs.declared.tree.Tree.{Tree};
 ghost use Rattle.temporal_model.specs.Snapshot.{InSnapshot};
 ghost use Rattle.version_store.specs.StoreState.{IsStoreRefusal};
 ghost use Rattle.script_engine.specs.Headline.{IsSequencedAnswer};
@@ -31,20 +27,18 @@ ghost use Rattle.script_engine.specs.engine.Stored.{RowsRepresent};
 
 use crate::engine::chained::chain_sequenced;
 use crate::engine::indexed::{positions_of_number, rows_of_number};
-use crate::engine::sequenced_queries::{
-    answer_over, push_current_of_key, push_ended_of_key, seen_by,
-};
+use crate::engine::sequenced_queries::{evaluate, push_current_within, push_ended_within};
 use catalog_core::resolved::{Query, QueryReference, Select, Tables};
 use catalog_core::{Catalog, Cond, TableDef, fits, is_value_column};
 use ended_versions::EndedVersions;
 use period_core::{Answer, Items, Memory, PeriodRow, Refusal, VersionRow, Window};
-use period_keys::{CurrentRows, Key, TableIndex, fixed_key_within};
+use period_keys::{CurrentRows, TableIndex, range_of_key_within};
 use sequenced_ops::is_ruled_out;
 use std::alloc::Global;
 
 // ---- the rows of a table
 
-/// How many values a table's rows have.
+/// The number of values of a table's rows.
 fn width_of(table: &TableDef) -> usize
     ensures { result ≡ length (value_columns table.now) }
 {
@@ -58,7 +52,7 @@ fn width_of(table: &TableDef) -> usize
     width
 }
 
-/// How many values the rows of the table of a number have.
+/// The number of values of the rows of the table of a number.
 fn width_of_number(catalog: &Catalog, number: u8) -> usize
     ensures { (d : Definition) → table_of catalog.now.tables number ≡ Some d
         → result ≡ length (value_columns d) }
@@ -111,8 +105,8 @@ fn needed_of_all(
     Ok(needed)
 }
 
-/// The rows of a table that are needed: where the conditions fix its key, those of that key alone
-/// are looked at. Its rows have `width` values.
+/// The rows of a table that are needed: those of the keys in the range that the conditions leave
+/// are looked at alone. Its rows have `width` values.
 fn needed_of(
     alloc: Global,
     conjuncts: &[Cond],
@@ -124,11 +118,14 @@ fn needed_of(
         ((version : Version) → Contains current.now.rows version → length version.values ≡ width)
         → IsPruned conjuncts.now start (InSnapshot (map row_of current.now.rows)) rows.items) }
 {
-    let Some(key) = fixed_key_within(alloc, conjuncts, start, width, current.positions())? else {
+    let range = range_of_key_within(alloc, conjuncts, start, width, current.positions())?;
+    if range.is_all() {
         return needed_of_all(alloc, conjuncts, start, current);
-    };
+    }
     let mut needed = Vec::new(alloc);
-    push_needed(alloc, conjuncts, start, current.of_key(&key), &mut needed)?;
+    for group in current.groups_within(alloc, &range)? {
+        push_needed(alloc, conjuncts, start, group.as_slice(), &mut needed)?;
+    }
     Ok(needed)
 }
 
@@ -155,44 +152,10 @@ fn needed_current(
 
 // ---- the references of a query
 
-/// What a table reference has to see through its window, where the conditions fix the key of its
-/// table at these positions: those rows that may have it.
-fn needed_of_key(
-    alloc: Global,
-    tables: &[TableIndex],
-    ended: &[EndedVersions],
-    reference: &QueryReference,
-    positions: &[usize],
-    key: Key,
-) -> Result<Items<PeriodRow>, Memory>
-    ensures { IfOk result (λ rows. (history : History)
-        → RowsRepresent history (map rows_by_key tables.now) ended.now
-        → ((t : RowsByKey) → table_of (map rows_by_key tables.now) reference.now.table ≡ Some t
-        → positions.now ≡ t.positions)
-        → (conjuncts : List (Tree CompareValues)) (start width : ℕ)
-        → SeesWidth history reference.now width
-        → FixesKeyWithin conjuncts start width positions.now key
-        → IsNeeded history conjuncts start reference.now rows) }
-{
-    let window = &reference.window;
-    let number = reference.table;
-    let mut rows = Vec::new(alloc);
-    push_current_of_key(alloc, window, tables, number, &key, &mut rows)?;
-    let values = key.into_values(alloc)?;
-    push_ended_of_key(
-        alloc,
-        window,
-        ended,
-        number,
-        positions,
-        values.as_slice(),
-        &mut rows,
-    )?;
-    Ok(Items::from_vec(rows))
-}
-
-/// What a table reference has to see through its window: all that it sees, or where the conditions
-/// fix its table's key those rows that may have it. Its rows have `width` values.
+/// The rows that a table reference has to see through its window: of those that it sees, the
+/// current rows of the keys in the range that the conditions leave, and the versions that have
+/// ended, or, if the range has one key, those of them that may have it. The rows of its table have
+/// `width` values.
 fn needed_through(
     alloc: Global,
     tables: &[TableIndex],
@@ -207,16 +170,19 @@ fn needed_through(
         → SeesWidth history reference.now width
         → IsNeeded history conjuncts.now start reference.now rows) }
 {
-    let positions = positions_of_number(tables, reference.table);
-    match fixed_key_within(alloc, conjuncts, start, width, positions)? {
-        Some(key) => needed_of_key(alloc, tables, ended, reference, positions, key),
-        None => seen_by(alloc, tables, ended, reference),
-    }
+    let window = &reference.window;
+    let number = reference.table;
+    let positions = positions_of_number(tables, number);
+    let range = range_of_key_within(alloc, conjuncts, start, width, positions)?;
+    let mut rows = Vec::new(alloc);
+    push_current_within(alloc, window, tables, number, &range, &mut rows)?;
+    push_ended_within(alloc, window, ended, number, positions, &range, &mut rows)?;
+    Ok(Items::from_vec(rows))
 }
 
-/// What a table reference has to see, where a combined row has the values of its row from a
-/// position on: the current rows that the conditions do not rule out, or what it needs through its
-/// window.
+/// Rows that a table reference has to see, if a combined row has the values of its row from a
+/// position on: the current rows that the conditions do not rule out, or those that it needs
+/// through its window.
 fn needed_by(
     alloc: Global,
     catalog: &Catalog,
@@ -268,7 +234,7 @@ fn push_needed_by_each(
     push_needed_by_each(alloc, catalog, tables, ended, conjuncts, next, more, lists)
 }
 
-/// The same for the references of a query, in the order of the text.
+/// Adds to lists what each of the references of a query has to see, in the order of the text.
 fn push_needed_tables(
     alloc: Global,
     catalog: &Catalog,
@@ -297,7 +263,7 @@ fn push_needed_tables(
     }
 }
 
-/// What the table references of a query have to see, in the order of the text.
+/// Rows that the table references of a query have to see, in the order of the text.
 fn needed_tables(
     alloc: Global,
     catalog: &Catalog,
@@ -319,7 +285,7 @@ fn needed_tables(
 /// looked at, which in a history always fits a query of the catalog. Where it does not, the rows in
 /// memory are those of no history, and the refusal is 62. The versions that have ended are the same
 /// afterwards, chained where that may help.
-pub fn answer_of(
+pub fn answer_query(
     alloc: Global,
     catalog: &Catalog,
     tables: &[TableIndex],
@@ -343,6 +309,6 @@ pub fn answer_of(
     if !fits(query, &needed) {
         return Err(Refusal::Store);
     }
-    let answer = answer_over(alloc, query, &needed)?;
+    let answer = evaluate(alloc, query, &needed)?;
     Ok(answer)
 }

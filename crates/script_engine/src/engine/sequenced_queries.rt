@@ -1,7 +1,7 @@
 //! Sequenced queries answered: what their table references see, as period rows, and the answer over
 //! these rows. All versions are in memory, so no query reads the database.
 
-ghost use Rattle.std.specs.Prelude.{◌≡◌, ◌++◌, IfErr, IfOk, List, OnOk, map};
+ghost use Rattle.std.specs.Prelude.{◌≡◌, ◌++◌, IfOk, List, OnOk, map};
 ghost use Rattle.std.specs.Prelude.{filter, reverse, true};
 ghost use Rattle.catalog_core.specs.declared.query.AnswerColumn.{AnswerColumn as Item};
 ghost use Rattle.catalog_core.specs.declared.query.resolved.QueryReference.{QueryReference as Ref};
@@ -9,33 +9,32 @@ ghost use Rattle.catalog_core.specs.query.Fitting.{fits};
 ghost use Rattle.catalog_core.specs.query.Queries.{plain_query, references_of};
 ghost use Rattle.ended_versions.specs.Hashes.{shares_hash};
 ghost use Rattle.ended_versions.specs.Packed.{Hold, seen_through};
-ghost use Rattle.history_model.specs.Histories.{History, catalog_of};
-ghost use Rattle.history_model.specs.OrdinaryQuery.{InAnswerOn, InAnswerOver};
+ghost use Rattle.history_model.specs.Histories.{History};
+ghost use Rattle.history_model.specs.OrdinaryQuery.{InAnswerOver};
 ghost use Rattle.history_model.specs.Versions.{row_of};
-ghost use Rattle.period_core.specs.declared.refusal.Refusal.TheVariants.{Memory as OutOfMemory};
 ghost use Rattle.period_core.specs.declared.version.VersionRow.{VersionRow as Version};
 ghost use Rattle.period_keys.specs.Current.{rows_by_key};
-ghost use Rattle.version_store.specs.StoreState.{IsStoreRefusal};
+ghost use Rattle.period_keys.specs.Rows.{rows_within};
+ghost use Rattle.period_keys.specs.Versions.{has_key_in};
 ghost use Rattle.script_engine.specs.Headline.{IsSequencedAnswer};
 ghost use Rattle.script_engine.specs.engine.Answering.{EachSees, SeesRows};
-ghost use Rattle.script_engine.specs.engine.Answering.{IsOfCatalog, columns_of};
-ghost use Rattle.script_engine.specs.engine.Audits.{HaveSeenRows};
+ghost use Rattle.script_engine.specs.engine.Answering.{columns_of};
 ghost use Rattle.script_engine.specs.engine.Ended.{ended_in};
 ghost use Rattle.script_engine.specs.engine.InMemory.{rows_in};
-ghost use Rattle.script_engine.specs.engine.Needed.{keyed_rows_in};
+ghost use Rattle.script_engine.specs.engine.Needed.{AddLackingNone, ranged_rows_in};
 ghost use Rattle.script_engine.specs.engine.Stored.{RowsRepresent};
 
 use crate::engine::indexed::rows_of_number;
 use catalog_core::resolved::{Query, QueryReference, Tables};
-use catalog_core::{AnswerColumn, fits, of_number};
+use catalog_core::{AnswerColumn, of_number};
 use coalesce_core::{coalesce, witnesses};
 use ended_versions::EndedVersions;
-use period_core::{Answer, Items, Memory, PeriodRow, Refusal, Text, Value, VersionRow, Window};
-use period_keys::{CurrentRows, Key, TableIndex};
+use period_core::{Answer, Items, Memory, PeriodRow, Text, Value, VersionRow, Window};
+use period_keys::{CurrentRows, KeyRange, TableIndex};
 use sequenced_ops::run_query;
 use std::alloc::Global;
 
-// ---- what a table reference sees
+// ---- the rows that a table reference sees
 
 /// Adds copies of those of these versions that the window sees, without their system time.
 fn push_current(
@@ -101,7 +100,7 @@ fn push_ended(
     push_rows(seen, rows)
 }
 
-/// The same of the table of a number.
+/// Adds copies of the current versions of a table that the window sees.
 fn push_current_of(
     alloc: Global,
     window: &Window,
@@ -118,7 +117,7 @@ fn push_current_of(
     }
 }
 
-/// The same of the versions that have ended.
+/// Adds the versions of a table that have ended and that the window sees.
 fn push_ended_of(
     alloc: Global,
     window: &Window,
@@ -136,27 +135,45 @@ fn push_ended_of(
     }
 }
 
-/// Adds those that the window sees of the current rows of a key.
-pub fn push_current_of_key(
+/// Adds those that the window sees of a table's current rows whose keys are in the range.
+fn push_current_in(
+    alloc: Global,
+    window: &Window,
+    range: &KeyRange,
+    current: &CurrentRows,
+    rows: &mut Vec<PeriodRow>,
+) -> Result<(), Memory>
+    ensures { OnOk result (rows.new.items ≡ rows.old.items
+        ++ map row_of (seen_through window.now (rows_within current.now range.now))) }
+{
+    for group in current.groups_within(alloc, range)? {
+        push_current(alloc, window, group.as_slice(), rows)?;
+    }
+    Ok(())
+}
+
+/// Adds those that the window sees of the current rows of the table of a number whose keys are in
+/// the range.
+pub fn push_current_within(
     alloc: Global,
     window: &Window,
     tables: &[TableIndex],
     number: u8,
-    key: &Key,
+    range: &KeyRange,
     rows: &mut Vec<PeriodRow>,
 ) -> Result<(), Memory>
     ensures { OnOk result (rows.new.items ≡ rows.old.items ++ map row_of
-        (seen_through window.now (keyed_rows_in (map rows_by_key tables.now) number key.now))) }
+        (seen_through window.now (ranged_rows_in (map rows_by_key tables.now) number range.now))) }
 {
     match rows_of_number(tables, number) {
-        Some(current) => push_current(alloc, window, current.of_key(key), rows),
+        Some(current) => push_current_in(alloc, window, range, current, rows),
         None => Ok(()),
     }
 }
 
 /// Adds those that the window sees of the versions that have ended and may have a key at these
 /// positions.
-pub fn push_ended_of_key(
+fn push_ended_of_key(
     alloc: Global,
     window: &Window,
     ended: &[EndedVersions],
@@ -176,9 +193,30 @@ pub fn push_ended_of_key(
     push_rows(seen, rows)
 }
 
-/// What a table reference sees through its window, of the versions in memory. The rows may come in
-/// any order, with overlaps and repeats.
-pub fn seen_by(
+/// Adds those that the window sees of the ended versions of the table of a number, but for some
+/// whose keys at these positions are not in the range.
+pub fn push_ended_within(
+    alloc: Global,
+    window: &Window,
+    ended: &[EndedVersions],
+    number: u8,
+    positions: &[usize],
+    range: &KeyRange,
+    rows: &mut Vec<PeriodRow>,
+) -> Result<(), Memory>
+    ensures { (versions : List Version) → Hold (ended_in ended.now number) versions
+        → OnOk result (AddLackingNone (has_key_in positions.now range.now)
+        (reverse (seen_through window.now versions)) rows.old.items rows.new.items) }
+{
+    match range.whole_key(positions) {
+        Some(key) => push_ended_of_key(alloc, window, ended, number, positions, key, rows),
+        None => push_ended_of(alloc, window, ended, number, rows),
+    }
+}
+
+/// The rows that a table reference sees through its window, of the versions in memory. The rows may
+/// come in any order, with overlaps and repeats.
+fn seen_by(
     alloc: Global,
     tables: &[TableIndex],
     ended: &[EndedVersions],
@@ -194,7 +232,7 @@ pub fn seen_by(
     Ok(Items::from_vec(rows))
 }
 
-// ---- what the references of a query see
+// ---- the rows that the references of a query see
 
 /// Adds to lists what each of the table references sees, in their order.
 fn push_seen(
@@ -214,7 +252,7 @@ fn push_seen(
     Ok(())
 }
 
-/// The same for the references of a query, in the order of the text.
+/// Adds to lists what each of the references of a query sees, in the order of the text.
 fn push_tables(
     alloc: Global,
     tables: &[TableIndex],
@@ -238,8 +276,8 @@ fn push_tables(
     }
 }
 
-/// What the table references of a query see, in the order of the text.
-fn tables_of(
+/// Rows that the table references of a query see, in the order of the text.
+pub fn tables_of(
     alloc: Global,
     tables: &[TableIndex],
     ended: &[EndedVersions],
@@ -278,7 +316,7 @@ fn column_names(alloc: Global, items: &[AnswerColumn]) -> Result<Items<Text>, Me
 }
 
 /// The answer of a query over what its references see: its rows, coalesced, with their witnesses.
-pub fn answer_over(alloc: Global, query: &Query, tables: &Tables) -> Result<Answer, Memory>
+pub fn evaluate(alloc: Global, query: &Query, tables: &Tables) -> Result<Answer, Memory>
     requires { fits (plain_query query.now) tables.now ≡ true }
     ensures right { IfOk result
         (IsSequencedAnswer (InAnswerOver (plain_query query.now) tables.now)) }
@@ -293,36 +331,4 @@ pub fn answer_over(alloc: Global, query: &Query, tables: &Tables) -> Result<Answ
         rows: Items::from_vec(rows),
         witnesses: Items::from_vec(witnesses),
     })
-}
-
-/// The answer of a query over the rows in memory, and what its references saw. What the references
-/// of a query of the catalog see in a history always fits it. Where it does not, the rows in memory
-/// are those of no history, and the refusal is 62.
-pub fn answered(
-    alloc: Global,
-    tables: &[TableIndex],
-    ended: &[EndedVersions],
-    query: &Query,
-) -> Result<(Answer, Tables), Refusal>
-    ensures right { (history : History)
-        → RowsRepresent history (map rows_by_key tables.now) ended.now
-        → IfOk result (λ found.
-        IsSequencedAnswer (InAnswerOn history (plain_query query.now)) found.0) }
-    ensures seen { (history : History)
-        → RowsRepresent history (map rows_by_key tables.now) ended.now
-        → IfOk result (λ found. HaveSeenRows history (plain_query query.now) found.1) }
-    ensures why { (history : History)
-        → RowsRepresent history (map rows_by_key tables.now) ended.now
-        → IsOfCatalog (catalog_of history) (plain_query query.now)
-        → IfErr result (λ refusal. refusal ≡ OutOfMemory) }
-    ensures columns { IfOk result (λ found. found.0.columns
-        ≡ map (λ (item : Item). item.name) (columns_of (plain_query query.now))) }
-    ensures named { IfErr result IsStoreRefusal }
-{
-    let seen = tables_of(alloc, tables, ended, query)?;
-    if !fits(query, &seen) {
-        return Err(Refusal::Store);
-    }
-    let answer = answer_over(alloc, query, &seen)?;
-    Ok((answer, seen))
 }

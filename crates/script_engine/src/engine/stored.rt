@@ -1,11 +1,11 @@
 //! Stored queries, answered from the versions in memory: no call of the database.
 
-ghost use Rattle.std.specs.Prelude.{◌≡◌, ◌++◌, IfOk, IfSome, List, OnOk, map, reverse, true};
+ghost use Rattle.std.specs.Prelude.{◌≡◌, ◌++◌, IfOk, List, OnOk, map, reverse, true};
 ghost use Rattle.catalog_core.specs.stored.StoredAnswers.{is_shown, shown_versions};
 ghost use Rattle.ended_versions.specs.Packed.{Hold, seen_through};
 ghost use Rattle.period_core.specs.declared.version.VersionRow.{VersionRow as Version};
 ghost use Rattle.period_keys.specs.Current.{rows_by_key};
-ghost use Rattle.period_keys.specs.Versions.{version_key};
+ghost use Rattle.period_keys.specs.Versions.{has_key_in};
 ghost use Rattle.version_store.specs.Contents.{Contents};
 ghost use Rattle.script_engine.specs.engine.Ended.{HaveEnded, ended_in};
 ghost use Rattle.script_engine.specs.engine.InMemory.{HaveCurrentRows, rows_in};
@@ -16,7 +16,7 @@ use crate::engine::indexed::{positions_of_number, rows_of_number};
 use catalog_core::{Stored, meets, of_number};
 use ended_versions::EndedVersions;
 use period_core::{Memory, VersionRow, Window};
-use period_keys::{CurrentRows, Key, TableIndex, fixed_key};
+use period_keys::{CurrentRows, KeyRange, TableIndex, range_of_key};
 use std::alloc::Global;
 
 /// Adds copies of the versions that the query shows of these.
@@ -37,37 +37,52 @@ fn push_shown(
     Ok(())
 }
 
-/// The key that the query's condition fixes, if it fixes one.
-fn key_of(alloc: Global, query: &Stored, positions: &[usize]) -> Result<Option<Key>, Memory>
-    ensures { IfOk result (λ found. IfSome found (λ key. (version : Version)
-        → is_shown query.now version ≡ true → version_key positions.now version ≡ key)) }
+/// A range of keys that has the key at these positions of each version that the query shows.
+fn range_of(alloc: Global, query: &Stored, positions: &[usize]) -> Result<KeyRange, Memory>
+    ensures { IfOk result (λ range. (version : Version)
+        → is_shown query.now version ≡ true → has_key_in positions.now range version ≡ true) }
 {
     match &query.condition {
-        Some(condition) => fixed_key(alloc, condition, positions),
-        None => Ok(None),
+        Some(condition) => range_of_key(alloc, condition, positions),
+        None => Ok(KeyRange::all(alloc)),
     }
 }
 
-/// The versions that the query shows of a table's current ones. Where its condition fixes the key,
-/// those of that key alone are looked at.
-fn shown_of(alloc: Global, query: &Stored, current: &CurrentRows) -> Result<Vec<VersionRow>, Memory>
+/// The versions that the query shows of those of all keys of a table.
+fn shown_of_all(
+    alloc: Global,
+    query: &Stored,
+    current: &CurrentRows,
+) -> Result<Vec<VersionRow>, Memory>
     ensures { IfOk result
         (λ shown. shown.items ≡ shown_versions query.now current.now.rows) }
 {
     let mut shown = Vec::new(alloc);
-    if let Some(key) = key_of(alloc, query, current.positions())? {
-        push_shown(alloc, query, current.of_key(&key), &mut shown)?;
-        return Ok(shown);
-    }
     for group in current.groups() {
         push_shown(alloc, query, group.as_slice(), &mut shown)?;
     }
     Ok(shown)
 }
 
-/// Those of the versions that have ended which the query may show: all that its window sees, or
-/// where its condition fixes the key at these positions those that may have it. A query without a
-/// window sees none of them, of any key.
+/// The versions that the query shows of a table's current ones. Those of the keys in the range that
+/// its condition leaves are looked at alone.
+fn shown_of(alloc: Global, query: &Stored, current: &CurrentRows) -> Result<Vec<VersionRow>, Memory>
+    ensures { IfOk result
+        (λ shown. shown.items ≡ shown_versions query.now current.now.rows) }
+{
+    let range = range_of(alloc, query, current.positions())?;
+    if range.is_all() {
+        return shown_of_all(alloc, query, current);
+    }
+    let mut shown = Vec::new(alloc);
+    for group in current.groups_within(alloc, &range)? {
+        push_shown(alloc, query, group.as_slice(), &mut shown)?;
+    }
+    Ok(shown)
+}
+
+/// Ended versions that the query may show: all that its window sees, or if its condition fixes the
+/// key at these positions, those that may have this key. A query without a window sees none.
 fn ended_seen(
     alloc: Global,
     query: &Stored,
@@ -81,11 +96,9 @@ fn ended_seen(
     if query.window == Window::Now {
         return ended.seen(alloc, query.window);
     }
-    match key_of(alloc, query, positions)? {
-        Some(key) => {
-            let values = key.into_values(alloc)?;
-            ended.seen_of_key(alloc, query.window, positions, values.as_slice())
-        }
+    let range = range_of(alloc, query, positions)?;
+    match range.whole_key(positions) {
+        Some(key) => ended.seen_of_key(alloc, query.window, positions, key),
         None => ended.seen(alloc, query.window),
     }
 }
@@ -111,7 +124,7 @@ fn push_ended(
     Ok(())
 }
 
-/// The same of the versions of its table.
+/// Adds the ended versions of its table that the query shows.
 fn push_ended_of(
     alloc: Global,
     query: &Stored,

@@ -8,7 +8,7 @@ use period_core::{Items, Memory};
 use statement_reports::{Cell, VersionColumn};
 use std::alloc::Global;
 
-/// The cell of the column that is declared at a place, where its value has this position.
+/// The cell of the column that is declared at a place, if its value has this position.
 fn cell_at(table: &TableDef, place: usize, kind: ColumnKind, position: usize) -> Cell
     ensures { result ≡ cell_at table.now place kind position }
 {
@@ -25,7 +25,7 @@ fn cell_at(table: &TableDef, place: usize, kind: ColumnKind, position: usize) ->
     }
 }
 
-/// The column that is declared at a place, where its value has this position.
+/// The column that is declared at a place, if its value has this position.
 fn version_column(
     alloc: Global,
     table: &TableDef,

@@ -19,7 +19,7 @@ fn check_piece(alloc: Global, script: &str, piece: &[TokenSpan]) -> Result<(), R
 {
     match statement_of(alloc, script, piece) {
         Ok(statement) => {
-            // By a call: the proof of an implicit drop goes through each kind of statement.
+            // By a call: the proof of an implicit drop walks through each kind of statement.
             drop(statement);
             Ok(())
         }

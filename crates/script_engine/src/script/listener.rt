@@ -1,11 +1,11 @@
-//! What gets the results of a run, each as soon as it is there.
+//! Listeners get the results of a run, each as soon as there is one.
 
 ghost use Rattle.std.specs.Prelude.{ℕ, Bool};
 ghost use Rattle.script_engine.specs.script.Keeping.{AddsWhereRoom};
 
-/// What receives the results of a script's pieces, one after the other.
+/// A receiver of the results of a script's pieces, one after the other.
 pub trait Listener<K> {
-    /// What it may become when it receives the result of the piece of a number, and whether it then
+    /// The listener after it receives the result of the piece of a number, and whether it then
     /// asks for more.
     ghost hears: { Self → ℕ → K → Bool → Self → Type 0 };
 

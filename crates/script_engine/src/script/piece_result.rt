@@ -1,6 +1,7 @@
-//! What a run keeps of each piece of a script: its result, or with it the audit of its answer.
+//! The result of a piece of a script, as a run keeps it: alone, or with the audit of its answer.
+//! `timed.rt` has what is kept beside the system's time.
 
-ghost use Rattle.std.specs.Prelude.{◌≡◌, List, Result, Err};
+ghost use Rattle.std.specs.Prelude.{◌≡◌, List, None, Err};
 ghost use Rattle.period_core.specs.Leasts.{MayAnswer, NoneApplies};
 ghost use Rattle.period_core.specs.declared.refusal.Refusal.{Refusal as RefusalModel};
 ghost use Rattle.sql_front.specs.Grammar.{IsStatement};
@@ -8,12 +9,12 @@ ghost use Rattle.sql_statements.specs.Lexemes.{Lexeme};
 ghost use Rattle.sql_statements.specs.Plain.{plain};
 ghost use Rattle.history_model.specs.Histories.{History};
 ghost use Rattle.version_store.specs.StoreState.{IsUsable, SparesOthers};
-ghost use Rattle.script_engine.specs.engine.Over.{StepOver};
-ghost use Rattle.script_engine.specs.engine.Stored.{EngineRepresents, RepresentsSome};
+ghost use Rattle.script_engine.specs.engine.EngineState.{EngineState};
+ghost use Rattle.script_engine.specs.engine.Stored.{EngineRepresents, RepresentsSome, WasUsable};
 ghost use Rattle.script_engine.specs.script.AuditedRuns.{AuditedPieceStep};
-ghost use Rattle.script_engine.specs.script.Script.{PieceStep, TextApplies};
+ghost use Rattle.script_engine.specs.script.Script.{KeptStepOver, PieceStep, PieceStepOver};
+ghost use Rattle.script_engine.specs.script.Script.{TextApplies};
 ghost use Rattle.statement_reports.specs.declared.entry.Entry.{Entry as EntryModel};
-ghost use Rattle.statement_reports.specs.declared.outcome.Outcome.{Outcome as OutcomeModel};
 
 use crate::engine::Engine;
 use period_core::Refusal;
@@ -21,45 +22,62 @@ use sql_statements::Statement;
 use sqlite_trees::store::Alter;
 use statement_reports::{Entry, Outcome};
 use std::alloc::Global;
+use std::time::Clock;
 
-/// What is kept of a piece.
+/// A value that is kept of a piece.
 pub trait PieceResult<S: Alter> {
-    /// When it may be kept of a piece in a history, and which history follows.
+    /// The pieces of which it may be kept in a history, and the history that follows.
     ghost is_step: { History → List Lexeme → Self → History → Type 0 };
 
-    /// The result that is kept.
-    ghost result_of: { Self → Result OutcomeModel RefusalModel };
+    /// The pieces of which it may be kept between states of an engine, whatever its database holds.
+    ghost is_step_over: { EngineState S → List Lexeme → Self → EngineState S → Type 0 };
 
-    /// Of a piece that is refused by its tokens alone.
+    /// The value that is kept of a piece that is refused before it is run.
+    ghost of_refusal: { RefusalModel → Self };
+
+    /// Of a piece that is refused before it is run, as by its tokens alone.
     fn refused(refusal: Refusal) -> Self
+        ensures kept { result ≡ of_refusal refusal }
         ensures step { (piece : List Lexeme) → MayAnswer (TextApplies piece) refusal
             → (history : History) → is_step history piece result history }
-        ensures told { result_of result ≡ Err refusal };
+        ensures over { (piece : List Lexeme) → MayAnswer (TextApplies piece) refusal
+            → (engine : EngineState S) → is_step_over engine piece result engine };
 
-    /// Of a piece that spells this statement, which is run.
-    fn executed(alloc: Global, engine: &mut Engine<S>, statement: &Statement) -> Self
+    /// Of a piece that spells this statement, which is run, with a clock that gives the system's
+    /// time.
+    fn executed<C: Clock>(
+        alloc: Global,
+        engine: &mut Engine<S>,
+        clock: &C,
+        statement: &Statement,
+    ) -> Self
         ensures step { IsUsable S.Store engine.new.connection
             → (history : History) → EngineRepresents S.Store history engine.old
             → (piece : List Lexeme) → NoneApplies (TextApplies piece)
             → IsStatement piece (plain statement.now)
             → RepresentsSome S.Store (is_step history piece result) engine.new }
-        ensures over { StepOver S.Store engine.old (plain statement.now) (result_of result)
-            engine.new }
+        ensures over { (piece : List Lexeme) → NoneApplies (TextApplies piece)
+            → IsStatement piece (plain statement.now)
+            → is_step_over engine.old piece result engine.new }
+        ensures usable { WasUsable S.Store engine.old.connection engine.new.connection }
         ensures others { SparesOthers S.Store engine.old.connection engine.new.connection };
 }
 
 impl<S: Alter> PieceResult<S> for Result<Outcome, Refusal> {
     ghost is_step = { PieceStep };
 
-    ghost result_of = { λ result. result };
+    ghost is_step_over = { PieceStepOver S.Store };
+
+    ghost of_refusal = { λ refusal. Err refusal };
 
     fn refused(refusal: Refusal) -> Result<Outcome, Refusal> {
         Err(refusal)
     }
 
-    fn executed(
+    fn executed<C: Clock>(
         alloc: Global,
         engine: &mut Engine<S>,
+        _clock: &C,
         statement: &Statement,
     ) -> Result<Outcome, Refusal> {
         engine.execute(alloc, statement)
@@ -69,13 +87,20 @@ impl<S: Alter> PieceResult<S> for Result<Outcome, Refusal> {
 impl<S: Alter> PieceResult<S> for Entry {
     ghost is_step = { AuditedPieceStep };
 
-    ghost result_of = { λ (entry : EntryModel). entry.result };
+    ghost is_step_over = { KeptStepOver S.Store (λ (entry : EntryModel). entry.result) };
+
+    ghost of_refusal = { λ refusal. record { result = Err refusal; audit = None } };
 
     fn refused(refusal: Refusal) -> Entry {
         Entry::unaudited(Err(refusal))
     }
 
-    fn executed(alloc: Global, engine: &mut Engine<S>, statement: &Statement) -> Entry {
+    fn executed<C: Clock>(
+        alloc: Global,
+        engine: &mut Engine<S>,
+        _clock: &C,
+        statement: &Statement,
+    ) -> Entry {
         engine.execute_audited(alloc, statement)
     }
 }

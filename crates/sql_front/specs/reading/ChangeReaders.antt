@@ -27,12 +27,12 @@ columns_read = optional_read (symbol (codes "(")) names_read
 unfoldable pub values_read : Reader (List (List Value))
 values_read = preceded_read (keyword (codes "VALUES")) (separated_read comma tuple_read)
 
--- what comes after INSERT INTO
+-- the rows after INSERT INTO
 unfoldable pub inserted_read : Reader InsertRows
 inserted_read =
     built_read rows_of (sequence_read name_read (sequence_read columns_read values_read))
 
--- INSERT INTO, and what comes after it
+-- INSERT INTO, and what follows it
 unfoldable pub insert_read : Reader InsertRows
 insert_read =
     preceded_read (keyword (codes "INSERT")) (preceded_read (keyword (codes "INTO")) inserted_read)
@@ -75,13 +75,13 @@ update_read n =
     preceded_read (keyword (codes "UPDATE"))
     (built_read update_of (sequence_read name_read (sequence_read portion_read (set_read n))))
 
--- what comes after DELETE FROM
+-- the statement after DELETE FROM
 unfoldable pub deleted_read : ℕ → Reader Delete
 deleted_read n =
     built_read delete_of (sequence_read name_read
     (sequence_read portion_read (where_read compare_read n)))
 
--- DELETE FROM, and what comes after it
+-- DELETE FROM, and what follows it
 unfoldable pub delete_read : ℕ → Reader Delete
 delete_read n =
     preceded_read (keyword (codes "DELETE"))

@@ -24,7 +24,7 @@ column_read =
     (sequence_read name_read (optional_read (symbol (codes "."))
     (preceded_read (symbol (codes ".")) name_read)))
 
--- a column, where a name comes first, or else a literal
+-- a column, if a name is first, or else a literal
 unfoldable pub operand_read : Reader Operand
 operand_read =
     choice_read (begins name) (built_read Column column_read) (built_read Literal literal_read)

@@ -53,7 +53,7 @@ second_is test (t ∷ rest) = begins test rest
 unfoldable pub one_more_name : List Lexeme → Bool
 one_more_name ts = begins comma ts && second_is name ts
 
--- ',' name, as long as a name comes after the comma
+-- ',' name, as long as a name follows the comma
 unfoldable pub more_names_read : Reader (List (List ℕ))
 more_names_read = repetition_read one_more_name (preceded_read comma name_read)
 
@@ -177,7 +177,7 @@ some_period_read =
     (built_read system_element system_element_read)
     (built_read period_element period_element_read)
 
--- a column where a name comes first, or else by its keyword: a period, a key, a reference
+-- a column if a name is first, or else by its keyword: a period, a key, a reference
 unfoldable pub element_read : Reader Element
 element_read =
     choice_read (begins name) (built_read column_element column_element_read)
@@ -195,12 +195,12 @@ versioning_read =
 unfoldable pub elements_read : Reader (List Element)
 elements_read = enclosed_read (separated_read comma element_read)
 
--- what comes after CREATE TABLE
+-- the definition after CREATE TABLE
 unfoldable pub created_table_read : Reader CreateTable
 created_table_read =
     built_read table_of (sequence_read name_read (sequence_read elements_read versioning_read))
 
--- CREATE TABLE, and what comes after it
+-- CREATE TABLE, and what follows it
 unfoldable pub create_read : Reader CreateTable
 create_read =
     preceded_read (keyword (codes "CREATE"))

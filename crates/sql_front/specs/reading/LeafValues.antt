@@ -8,7 +8,7 @@ use Rattle.period_core.specs.TextReading.{◌>>=◌, day_of_text, moment_of_text
 use Rattle.sql_front.specs.LiteralValues.{between_quotes, number_of_digits}
 use Rattle.period_core.specs.Encoding.{greatest_number}
 
--- what is over the limit stands in as 0
+-- a number over the limit is read as 0
 abbrev pub up_to : ℕ → ℕ → ℕ
 up_to limit value = cond (nat_lt limit value) 0 value
 

@@ -57,7 +57,7 @@ begins_contains_date [] = false
 begins_contains_date (first ∷ rest) =
     keyword (codes "CONTAINS") first && begins (keyword (codes "DATE")) rest
 
--- what is said of a period: a day that it contains, or how it stands to another
+-- a predicate of a period: a day that it contains, or its relation to another
 pub data PredicateTail : Type 0 where
   contains_day : ℤ → PredicateTail
   related : PeriodPredicate × PeriodOperand → PredicateTail
@@ -88,9 +88,9 @@ relation_word =
     (or_test (keyword (codes "PRECEDES")) (keyword (codes "SUCCEEDS"))))))
 
 -- such a word after the column that these tokens begin with
-unfoldable pub relation_behind_column : List Lexeme → Bool
-relation_behind_column [] = false
-relation_behind_column (first ∷ rest) =
+unfoldable pub relation_after_column : List Lexeme → Bool
+relation_after_column [] = false
+relation_after_column (first ∷ rest) =
     cond (begins (symbol (codes ".")) rest) (third_is relation_word rest)
     (begins relation_word rest)
 
@@ -98,8 +98,8 @@ relation_behind_column (first ∷ rest) =
 unfoldable pub predicate_ahead : List Lexeme → Bool
 predicate_ahead tokens =
     begins (keyword (codes "PERIOD")) tokens
-    || (begins name tokens && relation_behind_column tokens)
+    || (begins name tokens && relation_after_column tokens)
 
--- a predicate where one begins, or else a comparison
+-- a predicate if one begins, or else a comparison
 unfoldable pub stored_test_read : Reader StoredTest
 stored_test_read = choice_read predicate_ahead predicate_read (built_read Values compare_read)

@@ -71,12 +71,12 @@ from_read n =
     preceded_read (keyword (codes "FROM"))
     (sequence_read (separated_read comma (chain_read n)) (where_read compare_read n))
 
--- what comes after SELECT DISTINCT
+-- the select after SELECT DISTINCT
 unfoldable pub selected_read : ℕ → Reader Select
 selected_read n =
     built_read select_of (sequence_read (separated_read comma item_read) (from_read n))
 
--- SELECT DISTINCT, and what comes after it
+-- SELECT DISTINCT, and what follows it
 unfoldable pub select_read : ℕ → Reader Select
 select_read n =
     preceded_read (keyword (codes "SELECT"))
@@ -91,7 +91,7 @@ operator_read =
     (denotes_read Union (keyword (codes "UNION")))
     (denotes_read Except (keyword (codes "EXCEPT")))
 
--- the same, as the first token of a step
+-- a set operator, as the first token of a step
 abbrev pub begins_set_operator : Lexeme → Bool
 begins_set_operator = or_test (keyword (codes "UNION")) (keyword (codes "EXCEPT"))
 
@@ -132,7 +132,7 @@ query_with term steps = built_read combined_of (sequence_read term steps)
 abbrev pub term_of_primaries : Reader Query → Reader Query
 term_of_primaries primary = term_with primary (intersections_with (intersection_with primary))
 
--- a query whose terms are of these primaries
+-- a query whose terms are of the primaries given
 abbrev pub query_of_primaries : Reader Query → Reader Query
 query_of_primaries primary =
     query_with (term_of_primaries primary) (steps_with (step_with (term_of_primaries primary)))
@@ -163,7 +163,7 @@ term_read n = term_with (primary_read n) (intersections_read n)
 unfoldable pub step_read : ℕ → Reader (SetOperator × Query)
 step_read n = step_with (term_read n)
 
--- any number of these steps
+-- any number of the steps
 unfoldable pub steps_read : ℕ → Reader (List (SetOperator × Query))
 steps_read n = steps_with (step_read n)
 

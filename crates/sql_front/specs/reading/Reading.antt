@@ -5,7 +5,7 @@ use Rattle.period_core.specs.TextReading.{◌>>=◌}
 use Rattle.sql_statements.specs.Lexemes.{Lexeme}
 use Rattle.sql_front.specs.Language.{symbol}
 
--- reading from the front of tokens, where a value can be read there
+-- reading from the front of tokens, if a value can be read there
 abbrev pub Reader : Type 0 → Type 0
 Reader A = List Lexeme → Option (A × List Lexeme)
 
@@ -26,7 +26,7 @@ sequence_read p q ts = do
   y ← q x.1
   Some ((x.0, y.0), y.1)
 
--- what is built of a value
+-- a reader of a value, from which another is built
 abbrev pub built_read : {A B : Type 0} → (A → B) → Reader A → Reader B
 built_read f p ts = do
   x ← p ts
@@ -47,7 +47,7 @@ third_is test (a ∷ b ∷ rest) = begins test rest
 abbrev pub choice_read : {A : Type 0} → (List Lexeme → Bool) → Reader A → Reader A → Reader A
 choice_read d p q ts = cond (d ts) (p ts) (q ts)
 
--- a value where the next token meets the test, else none
+-- a value if the next token meets the test, else none
 abbrev pub optional_read : {A : Type 0} → (Lexeme → Bool) → Reader A → Reader (Option A)
 optional_read {A} test p ts =
     cond (begins test ts) (p ts >>= λ x. Some (Some x.0, x.1)) (Some (None, ts))
@@ -69,13 +69,13 @@ preceded_read {A} test p =
     built_read (λ (v : Unit {0} × A). v.1) (sequence_read (fixed_read test) p)
 
 -- the tokens after one that meets the test, or all of them
-abbrev pub behind_optional : (Lexeme → Bool) → List Lexeme → List Lexeme
-behind_optional test [] = []
-behind_optional test (t ∷ rest) = cond (test t) rest (t ∷ rest)
+abbrev pub after_optional : (Lexeme → Bool) → List Lexeme → List Lexeme
+after_optional test [] = []
+after_optional test (t ∷ rest) = cond (test t) rest (t ∷ rest)
 
--- the same, or the value alone
+-- a reader of a value after a token, or of the value alone
 abbrev pub preceded_or_not_read : {A : Type 0} → (Lexeme → Bool) → Reader A → Reader A
-preceded_or_not_read test p ts = p (behind_optional test ts)
+preceded_or_not_read test p ts = p (after_optional test ts)
 
 -- a token that meets the test, and means this value
 abbrev pub denotes_read : {A : Type 0} → A → (Lexeme → Bool) → Reader A

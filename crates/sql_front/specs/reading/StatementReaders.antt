@@ -14,13 +14,13 @@ use Rattle.sql_front.specs.reading.QueryReaders.{sequenced_read}
 use Rattle.sql_front.specs.reading.ElementReaders.{create_read}
 use Rattle.sql_front.specs.reading.ChangeReaders.{at_read, delete_read, insert_read, update_read}
 
--- what comes after SELECT * FROM
+-- the query after SELECT * FROM
 unfoldable pub stored_table_read : ℕ → Reader Stored
 stored_table_read n =
     built_read stored_of (sequence_read name_read
     (sequence_read for_window_read (where_read stored_test_read n)))
 
--- SELECT * FROM, and what comes after it
+-- SELECT * FROM, and what follows it
 unfoldable pub stored_read : ℕ → Reader Stored
 stored_read n =
     preceded_read (keyword (codes "SELECT")) (preceded_read (symbol (codes "*"))

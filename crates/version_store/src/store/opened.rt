@@ -1,6 +1,7 @@
 //! A store that has been opened, and is not in use yet.
 
-ghost use Rattle.std.specs.Prelude.{◌≡◌, ◌≢◌, ◌⊎◌, ◌≤◌, ℕ, [], false, IfErr, IfOk, IsOk};
+ghost use Rattle.std.specs.Prelude.{◌≡◌, ◌≢◌, ◌⊎◌, ◌≤◌, ℕ, [], Bool, false, IfErr, IfOk, IsOk};
+ghost use Rattle.std.specs.Prelude.{IsTrue};
 ghost use Rattle.period_core.specs.declared.refusal.Refusal.TheVariants.{BadStore};
 ghost use Rattle.period_core.specs.Encoding.{greatest_number};
 ghost use Rattle.period_core.specs.Moments.{first_moment};
@@ -9,18 +10,19 @@ ghost use Rattle.version_tables.specs.Healthy.{IsHealthy};
 ghost use Rattle.version_tables.specs.Making.{HasCounters};
 ghost use Rattle.version_tables.specs.Presence.{HasNoStoreTable};
 ghost use Rattle.version_tables.specs.Represents.{HaveOwnRowids};
-ghost use Rattle.version_tables.specs.Steps.{IsAsBefore};
+ghost use Rattle.version_tables.specs.Steps.{IsAsBefore, KeepsFaults};
 ghost use Rattle.version_tables.specs.Tables.{no_schema};
 ghost use Rattle.version_tables.specs.declared.form.Form.{Form as AnyForm};
 ghost use Rattle.version_tables.specs.declared.form.Form.TheVariants.{Microseconds};
 ghost use Rattle.version_store.specs.Contents.{AreVersionsOf, Contents, empty_contents};
 ghost use Rattle.version_store.specs.GoodStore.{AreGood, AreLawful, HaveTables, IsGoodStore};
-ghost use Rattle.version_store.specs.GoodStore.{NothingMore};
-ghost use Rattle.version_store.specs.StoreState.{IsFailure, IsMadeBehind, IsOpenRefusal, IsOurs};
+ghost use Rattle.version_store.specs.GoodStore.{NoExtraCondition};
+ghost use Rattle.version_store.specs.StoreState.{IsCreatedAfter, IsFailure};
+ghost use Rattle.version_store.specs.StoreState.{IsOpenRefusal, OwnTablesAreWellFormed};
 ghost use Rattle.version_store.specs.StoreState.{IsStoreRefusal, IsUsable, OpenedRepresents};
 ghost use Rattle.version_store.specs.StoreState.{SparesOthers, StoreRepresents};
 ghost use Rattle.version_store.specs.Units.{in_microseconds};
-ghost use Rattle.version_store.specs.Written.{HasIn};
+ghost use Rattle.version_store.specs.Written.{HasIn, IsMovable};
 
 use crate::inspection::inspect;
 use crate::store::VersionStore;
@@ -69,12 +71,18 @@ impl<S: Alter> OpenedStore<S> {
         self.store.clock()
     }
 
-    /// The store, for use: its keys and references were found kept. A database of form 1 is moved
+    /// The store, for use: its keys and references were found kept. With what these ask of the
+    /// contents, by whichever test, the store meets all six points. A database of form 1 is moved
     /// to form 2, in one transaction; one of form 2 is not written. On `Err`, 61 or 62, the
     /// database is as it was opened, the connection is returned, and no transaction is open on it.
+    /// If it is healthy, with short versions, it is refused for memory or a fault alone.
     pub fn accept(self) -> Result<VersionStore<S>, (Refusal, Connection<S>)>
         ensures accepted { IfOk result (λ store. IsUsable S.Store store.connection
             → (c : Contents) → OpenedRepresents S.Store self c → StoreRepresents S.Store store c) }
+        ensures good { IfOk result (λ store. IsUsable S.Store store.connection
+            → (test : Contents → Bool) (c : Contents) → OpenedRepresents S.Store self c
+            → AreGood (λ d. IsTrue (test d)) c
+            → IsGoodStore (λ d. IsTrue (test d)) (state S.Store store.connection).now) }
         ensures kept { IfOk result (λ store. (store.catalog ≡ self.store.catalog)
             × (store.clock ≡ self.store.clock)) }
         ensures others { IfOk result (λ store.
@@ -83,6 +91,14 @@ impl<S: Alter> OpenedStore<S> {
             → IsUsable S.Store self.store.connection) }
         ensures unwritten { self.form ≡ Microseconds
             → IsOk result × IfOk result (λ store. store ≡ self.store) }
+        ensures healthy { IfOk result (λ store. IsUsable S.Store store.connection
+            → (c : Contents) → OpenedRepresents S.Store self c
+            → (left : ℕ) → IsHealthy left (state S.Store self.store.connection).now
+            → IsHealthy left (state S.Store store.connection).now) }
+        ensures why { IfErr result (λ failed. IsUsable S.Store failed.1
+            → (c : Contents) → OpenedRepresents S.Store self c
+            → IsMovable (state S.Store self.store.connection).now c
+            → IsFailure S.Store self.store.connection failed.1 failed.0) }
         ensures none { IfErr result (λ failed. IsUsable S.Store failed.1
             → IsAsBefore (state S.Store self.store.connection) (state S.Store failed.1)) }
         ensures was_usable { IfErr result (λ failed. IsUsable S.Store failed.1
@@ -92,9 +108,16 @@ impl<S: Alter> OpenedStore<S> {
     {
         let OpenedStore { mut store, form } = self;
         match form {
-            Form::Microseconds => Ok(store),
+            Form::Microseconds => {
+                // For the proof alone: while a connection is open, no two rows share a key.
+                let _live = store.connection.schema();
+                Ok(store)
+            }
             Form::Seconds => match write_move(&mut store.connection, store.clock) {
-                Ok(()) => Ok(store),
+                Ok(()) => {
+                    let _live = store.connection.schema();
+                    Ok(store)
+                }
                 Err(fault) => Err((Refusal::from(fault), store.close())),
             },
         }
@@ -112,10 +135,10 @@ impl<S: Alter> OpenedStore<S> {
 
 impl<S: Alter> VersionStore<S> {
     /// Opens a store, which is then still to be accepted. In a database that has none of the three
-    /// tables they are made, as by `create`, after what others have there. Where all three are
+    /// tables they are made, as by `create`, after what others have there. If all three are
     /// there, the store is opened exactly if it is a good one but for its keys and references; what
     /// it holds is then as it was closed, of form 1 in microseconds. Tables, indexes and views that
-    /// others have after the three do not count. Where the three are not as the store makes them,
+    /// others have after the three do not count. If the three are not as the store makes them,
     /// or follow tables of others, the contract says only that a refusal changes nothing. Beside
     /// the store are the version rows of each table, each list in any order: they are read as the
     /// store is judged, and so once. On `Err` nothing is changed, the connection is returned, and
@@ -131,16 +154,16 @@ impl<S: Alter> VersionStore<S> {
         ensures beside { IfOk result (λ found. IsUsable S.Store found.0.store.connection
             → HasNoStoreTable (state S.Store connection).now.schema
             → HasCounters (state S.Store connection).now.schema
-            → IsMadeBehind (state S.Store connection)
+            → IsCreatedAfter (state S.Store connection)
             (state S.Store found.0.store.connection)) }
         ensures healthy { IfOk result (λ found. IsUsable S.Store found.0.store.connection
             → (state S.Store connection).now.schema ≡ no_schema
             → (count : ℕ) → count ≤ greatest_number
             → IsHealthy count (state S.Store found.0.store.connection).now) }
         ensures good { IfOk result (λ found. IsUsable S.Store found.0.store.connection
-            → IsOurs (state S.Store connection).now.schema
+            → OwnTablesAreWellFormed (state S.Store connection).now.schema
             → HasNoStoreTable (state S.Store connection).now.schema
-            ⊎ ((good : IsGoodStore NothingMore (state S.Store connection).now)
+            ⊎ ((good : IsGoodStore NoExtraCondition (state S.Store connection).now)
             × (good.form ≡ found.0.form)
             × OpenedRepresents S.Store found.0 (in_microseconds good.form good.contents)
             × AreVersionsOf (in_microseconds good.form good.contents) found.1.items)) }
@@ -163,13 +186,18 @@ impl<S: Alter> VersionStore<S> {
             × (found.0.form ≡ Microseconds)) }
         ensures usable { IfOk result (λ found. IsUsable S.Store found.0.store.connection
             → IsUsable S.Store connection) }
+        ensures faults { IfOk result (λ found.
+            KeepsFaults (state S.Store connection) (state S.Store found.0.store.connection)) }
         ensures lawful { IfOk result (λ found. AreLawful [] found.0.store.catalog.tables) }
         ensures bad { IfErr result (λ failed. IsUsable S.Store failed.1 → failed.0 ≡ BadStore
             → (¬ HasNoStoreTable (state S.Store connection).now.schema)
-            × ¬ IsGoodStore NothingMore (state S.Store connection).now) }
+            × ¬ IsGoodStore NoExtraCondition (state S.Store connection).now) }
         ensures why { IfErr result (λ failed. IsUsable S.Store failed.1
-            → IsGoodStore NothingMore (state S.Store connection).now
+            → IsGoodStore NoExtraCondition (state S.Store connection).now
             → HaveOwnRowids ((state S.Store connection).now.trees 2)
+            → IsFailure S.Store connection failed.1 failed.0) }
+        ensures why_new { IfErr result (λ failed. IsUsable S.Store failed.1
+            → (state S.Store connection).now.schema ≡ no_schema
             → IsFailure S.Store connection failed.1 failed.0) }
         ensures none { IfErr result (λ failed. IsUsable S.Store failed.1
             → IsAsBefore (state S.Store connection) (state S.Store failed.1)) }
@@ -220,7 +248,7 @@ impl<S: Alter> VersionStore<S> {
             → (c : Contents) → StoreRepresents S.Store self c
             → AreVersionsOf c found.1.items) }
         ensures kept { IfErr result (λ failed. IsUsable S.Store failed.1
-            → (c : Contents) → StoreRepresents S.Store self c → AreGood NothingMore c
+            → (c : Contents) → StoreRepresents S.Store self c → AreGood NoExtraCondition c
             → (failed.0 ≢ BadStore)
             × IsFailure S.Store self.connection failed.1 failed.0) }
     {

@@ -1,7 +1,13 @@
 use Rattle.bitemporal_file.proofs.over.run_opened.Goals as goal
 
-pub returns-then-asked-clause-ran : goal.returns-then-asked-clause-ran
-returns-then-asked-clause-ran g c = rw (c.if-asked.true, ← c.as_slice-files.ensures.value) c.run_store.ensures.ran
+pub returns-in-false-false-clause-ran : goal.returns-in-false-false-clause-ran
+returns-in-false-false-clause-ran g c = rw (c.in-false-false.is-0, c.in-false-false.is-1, ← c.as_slice-files.ensures.value) c.run_store-in-false-false.ensures.ran
 
-pub returns-clause-ran : goal.returns-clause-ran
-returns-clause-ran g c = rw (c.if-asked.false, ← c.as_slice-files.ensures.value) c.run_store-2.ensures.ran
+pub returns-in-false-true-clause-ran : goal.returns-in-false-true-clause-ran
+returns-in-false-true-clause-ran g c = rw (c.in-false-true.is-0, c.in-false-true.is-1, ← c.as_slice-files.ensures.value) c.run_store-in-false-true.ensures.ran
+
+pub returns-in-true-false-clause-ran : goal.returns-in-true-false-clause-ran
+returns-in-true-false-clause-ran g c = rw (c.in-true-false.is-0, c.in-true-false.is-1, ← c.as_slice-files.ensures.value) c.run_store-in-true-false.ensures.ran
+
+pub returns-in-true-true-clause-ran : goal.returns-in-true-true-clause-ran
+returns-in-true-true-clause-ran g c = rw (c.in-true-true.is-0, c.in-true-true.is-1, ← c.as_slice-files.ensures.value) c.run_store.ensures.ran

@@ -2,8 +2,8 @@ use Rattle.std.proofs.Common.{◌∙◌, inl, inr, refl}
 use Rattle.std.proofs.lemmas.Result.{err_from_is_err_and}
 use Rattle.bitemporal_file.proofs.over.run_over.Goals as goal
 
-pub run_opened-requires-clause-fresh : goal.run_opened-requires-clause-fresh
-run_opened-requires-clause-fresh g c = c.requires.unused.fault
+pub run_opened-ran-requires-clause-fresh : goal.run_opened-ran-requires-clause-fresh
+run_opened-ran-requires-clause-fresh g c = c.requires.unused.fault
 
 pub give_up-requires : goal.give_up-requires
 give_up-requires g c =

@@ -4,22 +4,22 @@ use Rattle.version_store.proofs.Beside.{spares_then}
 use Rattle.history_model.specs.Histories.{History}
 use Rattle.bitemporal_file.specs.StoreRuns.{LeadsDatabase, LeadsEngine, LeadsOver}
 use Rattle.script_engine.specs.engine.EngineState.{EngineState}
-use Rattle.script_engine.specs.script.Script.{KeptStepOver}
-use Rattle.bitemporal_file.proofs.RunFacts.{stands_for}
+use Rattle.bitemporal_file.specs.Commands.{IsAnswered, IsAnsweredOver}
+use Rattle.bitemporal_file.proofs.RunFacts.{stands_for_history}
 use Rattle.bitemporal_file.proofs.StoreFacts.{given_so}
 use Rattle.bitemporal_file.proofs.over.run_store.Goals as goal
 
 pub returns-clause-ran : goal.returns-clause-ran
 returns-clause-ran g c =
-    given_so g.K.PieceResult.is_step (KeptStepOver g.S.Store g.K.PieceResult.result_of) g.K.Reported.refused g.W.Write.contents g.K.Reported.text g.K.Reported.status_of (LeadsEngine g.S.Store c.in_ok-engine.engine c.run_files-ended.new.engine) (λ (Led : EngineState g.row.S.Denot → EngineState g.row.S.Denot → Type 0). Led c.in_ok-engine.engine c.run_files-ended.new.engine) (LeadsDatabase g.S.Store c.args.connection c.close_at_exit.result) (LeadsOver g.S.Store c.args.connection c.close_at_exit.result)
+    given_so g.K.PieceResult.is_step g.K.PieceResult.is_step_over (IsAnswered g.C.System.made) (IsAnsweredOver g.S.Store) g.K.Reported.refused g.W.Write.contents g.K.Reported.text g.K.Reported.status_of (LeadsEngine g.S.Store c.in_ok-engine.engine c.run_files-ended.new.engine) (λ (Led : EngineState g.row.S.Denot → EngineState g.row.S.Denot → Type 0). Led c.in_ok-engine.engine c.run_files-ended.new.engine) (LeadsDatabase g.S.Store c.args.connection c.close_at_exit.result) (LeadsOver g.S.Store c.args.connection c.close_at_exit.result)
     (λ (Led : History → History → Type 0) led usable history stands.
     let engine_usable = subst (IsUsable g.S.Store) c.close_at_exit.ensures.same usable in
     let opened = c.in_ok-engine.ensures.opened.represents (c.run_files-ended.ensures.usable engine_usable) history stands in
     let (last, leads, represents) = led engine_usable history opened in
-    let (now, committed) = stands_for g.S.Store last c.run_files-ended.new.engine c.close_at_exit.result c.close_at_exit.ensures.same represents in
+    let (now, committed) = stands_for_history g.S.Store last c.run_files-ended.new.engine c.close_at_exit.result c.close_at_exit.ensures.same represents in
     (last, leads, now, committed))
     (λ (Led : EngineState g.row.S.Denot → EngineState g.row.S.Denot → Type 0) led. (c.in_ok-engine.engine, c.run_files-ended.new.engine, c.in_ok-engine.ensures.opened, led, c.close_at_exit.ensures.same))
-    _ _ c.args.reporter.now c.run_files-ended.result c.run_files-ended.new.reporter c.run_files-ended.ensures.ran
+    _ _ _ c.args.reporter.now c.run_files-ended.result c.run_files-ended.new.reporter c.run_files-ended.ensures.ran
 
 pub returns-clause-others : goal.returns-clause-others
 returns-clause-others g c =

@@ -15,7 +15,7 @@ returns-in-Ok-run_asked-clause-status g c = c.in-Ok-run_asked.ensures.low (omega
 
 pub returns-in-Ok-run_asked-clause-runs : goal.returns-in-Ok-run_asked-clause-runs
 returns-in-Ok-run_asked-clause-runs g c =
-    inr (c.in-Ok.asked, record { sound = c.in-Ok.ensures.taken; asks = c.in-Ok.ensures.asked; alone = c.in-Ok.ensures.alone; usual = c.in-Ok.ensures.accepts }, Ok c.in-Ok-run_asked.status, (refl, refl), c.in-Ok-run_asked.ensures.listed, c.in-Ok-run_asked.ensures.ran)
+    inr (c.in-Ok.asked, record { sound = c.in-Ok.ensures.taken; asks = c.in-Ok.ensures.asked; alone = c.in-Ok.ensures.alone; usual = c.in-Ok.ensures.accepts }, Ok c.in-Ok-run_asked.status, (refl, refl), c.in-Ok-run_asked.ensures.done, c.in-Ok-run_asked.ensures.read)
 
 pub returns-clause-status : goal.returns-clause-status
 returns-clause-status g c = omega (arith, c.end_in.ensures.status)
@@ -23,4 +23,4 @@ returns-clause-status g c = omega (arith, c.end_in.ensures.status)
 pub returns-clause-runs : goal.returns-clause-runs
 returns-clause-runs g c =
     let (told, may, wrote) = c.end_in.ensures.told in
-    inr (c.in-Ok.asked, record { sound = c.in-Ok.ensures.taken; asks = c.in-Ok.ensures.asked; alone = c.in-Ok.ensures.alone; usual = c.in-Ok.ensures.accepts }, Err c.in-Err-run_asked.fault, (c.end_in.ensures.status, told, may, wrote), c.in-Err-run_asked.ensures.listed, c.in-Err-run_asked.ensures.ran)
+    inr (c.in-Ok.asked, record { sound = c.in-Ok.ensures.taken; asks = c.in-Ok.ensures.asked; alone = c.in-Ok.ensures.alone; usual = c.in-Ok.ensures.accepts }, Err c.in-Err-run_asked.fault, (c.end_in.ensures.status, told, may, wrote), c.in-Err-run_asked.ensures.done, c.in-Err-run_asked.ensures.read)

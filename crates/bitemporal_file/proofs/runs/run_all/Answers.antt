@@ -2,7 +2,6 @@ use Rattle.std.proofs.Common.{◌≡◌, ◌<◌, ◌+◌, ◌++◌, ◌∷◌, 
 use Rattle.std.proofs.lemmas.Result.{err_from_is_err_and}
 use Rattle.version_store.proofs.Beside.{spares_same, spares_then}
 use Rattle.command_line.specs.declared.fault.RunFault.{RunFault}
-use Rattle.script_engine.specs.script.Script.{KeptStepOver}
 use Rattle.bitemporal_file.specs.ScriptRuns.{AreOfReaders, AreRun, Ends}
 use Rattle.std.proofs.lemmas.List.Elements.{All-nil}
 use Rattle.bitemporal_file.proofs.RunFacts.{all_ran, ends_more, ends_within, known-all, known-next, leads-more, more_ran, none_yet, quiet_of, readers-more, readers-within, whole_ran}
@@ -49,7 +48,7 @@ loop-name-preserved g c =
         subst (λ (rs : List (Option (List ℕ))). AreOfReaders rs (runs ++ more)) (sym next) (readers-more contents text status readers known runs more count are its_known),
         whole_ran runs more c.run_named.result new.fault wholes run whole quiet,
         subst (λ (rs : List (Option (List ℕ))). Ends contents text status rs old (runs ++ more) (Ok true) new) (sym next) (ends_more contents text status readers known old runs c.loop-name.reporter more (Ok true) new c.loop-name.invariant.quiet ends last_whole),
-        leads-more (KeptStepOver g.S.Store g.K.PieceResult.result_of) c.args.engine.now runs more c.loop-name.engine c.run_named.new.engine over stepped,
+        leads-more g.K.PieceResult.is_step_over c.args.engine.now runs more c.loop-name.engine c.run_named.new.engine over stepped,
         λ usable history stands.
             let (middle, leads, represents) = did (c.run_named.ensures.usable usable) history stands in
             let (after, leads_on, represents_after) = went usable middle represents in
@@ -89,7 +88,7 @@ returns-in_err-goes_on-clause-ran g c =
       subst (λ (rs : List (Option (List ℕ))). AreOfReaders rs (runs ++ more)) all (readers-within contents text status (readers ++ known ∷ []) rest (runs ++ more) (readers-more contents text status readers known runs more count are its_known)),
       more_ran runs more (Err c.in_err-goes_on.field-0.0) new.fault wholes (subst (λ (ended : Result Bool RunFault). AreRun more ended new.fault) whole run),
       subst (λ (rs : List (Option (List ℕ))). Ends contents text status rs old (runs ++ more) (Err c.in_err-goes_on.field-0.0) new) all (ends_within contents text status (readers ++ known ∷ []) rest old (runs ++ more) (Err c.in_err-goes_on.field-0.0) new (λ on. let no : ⊥ = cc in no) met),
-      leads-more (KeptStepOver g.S.Store g.K.PieceResult.result_of) c.args.engine.now runs more c.loop-name.engine c.run_named.new.engine over stepped,
+      leads-more g.K.PieceResult.is_step_over c.args.engine.now runs more c.loop-name.engine c.run_named.new.engine over stepped,
       λ usable history stands.
           let (middle, leads, represents) = did (c.run_named.ensures.usable usable) history stands in
           let (after, leads_on, represents_after) = went usable middle represents in
@@ -126,7 +125,7 @@ returns-then-not-goes_on-clause-ran g c =
       subst (λ (rs : List (Option (List ℕ))). AreOfReaders rs (runs ++ more)) all (readers-within contents text status (readers ++ known ∷ []) rest (runs ++ more) (readers-more contents text status readers known runs more count are its_known)),
       more_ran runs more (Ok false) new.fault wholes (subst (λ (ended : Result Bool RunFault). AreRun more ended new.fault) whole run),
       subst (λ (rs : List (Option (List ℕ))). Ends contents text status rs old (runs ++ more) (Ok false) new) all (ends_within contents text status (readers ++ known ∷ []) rest old (runs ++ more) (Ok false) new (λ on. let no : ⊥ = cc in no) met),
-      leads-more (KeptStepOver g.S.Store g.K.PieceResult.result_of) c.args.engine.now runs more c.loop-name.engine c.run_named.new.engine over stepped,
+      leads-more g.K.PieceResult.is_step_over c.args.engine.now runs more c.loop-name.engine c.run_named.new.engine over stepped,
       λ usable history stands.
           let (middle, leads, represents) = did (c.run_named.ensures.usable usable) history stands in
           let (after, leads_on, represents_after) = went usable middle represents in
@@ -151,7 +150,7 @@ returns-clause-ran g c =
       did,
     )
 
--- ---- what others have
+-- ---- the tables of others
 
 pub returns-in_err-goes_on-clause-others : goal.returns-in_err-goes_on-clause-others
 returns-in_err-goes_on-clause-others g c =

@@ -2,7 +2,6 @@ use Rattle.std.proofs.Common.{◌≡◌, All, List, None, Ok, map, string_bytes,
 use Rattle.history_model.specs.Histories.{History}
 use Rattle.version_store.specs.StoreState.{IsUsable, SparesOthers}
 use Rattle.script_engine.specs.engine.Stored.{EngineRepresents, RepresentsSome, WasUsable}
-use Rattle.script_engine.specs.script.Script.{KeptStepOver}
 use Rattle.bitemporal_file.specs.ScriptRuns.{AreOfReaders, Ends, IsWhole, LeadsTo, ScriptRun}
 use Rattle.bitemporal_file.proofs.runs.run_all.Given as goal
 
@@ -15,6 +14,6 @@ invariant-loop-name g l = record {
       × AreOfReaders (map (g.Q.Scripts.content l.scripts) (map string_bytes (take l.name-index l.names))) runs
       × All IsWhole runs
       × Ends g.W.Write.contents g.K.Reported.text g.K.Reported.status_of (map (g.Q.Scripts.content l.scripts) (map string_bytes (take l.name-index l.names))) l.fn.reporter runs (Ok true) l.reporter
-      × LeadsTo (KeptStepOver g.S.Store g.K.PieceResult.result_of) l.fn.engine runs l.engine
+      × LeadsTo g.K.PieceResult.is_step_over l.fn.engine runs l.engine
       × (IsUsable g.S.Store l.engine.connection → (history : History) → EngineRepresents g.S.Store history l.fn.engine → RepresentsSome g.S.Store (LeadsTo g.K.PieceResult.is_step history runs) l.engine);
 }

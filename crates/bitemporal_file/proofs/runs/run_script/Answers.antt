@@ -1,11 +1,11 @@
-use Rattle.std.proofs.Common.{[], ◌∷◌, Err, refl, subst, sym}
+use Rattle.std.proofs.Common.{◌≡◌, [], ◌∷◌, Option, None, Some, Err, refl, subst, sym}
 use Rattle.std.proofs.lemmas.Result.{err_from_is_err_and}
 use Rattle.script_engine.specs.engine.Stored.{EngineRepresents}
 use Rattle.script_engine.specs.script.Script.{MayRefuseScript}
 use Rattle.command_line.specs.declared.fault.RunFault.TheVariants.{Script}
 use Rattle.bitemporal_file.specs.ScriptRuns.{Ends}
 use Rattle.bitemporal_file.proofs.RunFacts.{none_ran, none_run, one, one_ran, one_ended, one_faulty, read_bytes, read_fault_is_plain, read_refusal, same_refusal, went_on}
-use Rattle.bitemporal_file.proofs.Told.{all_told}
+use Rattle.bitemporal_file.proofs.ReporterFacts.{all_recorded}
 use Rattle.bitemporal_file.proofs.runs.run_script.Goals as goal
 
 pub returns-in_err-script-clause-ran : goal.returns-in_err-script-clause-ran
@@ -20,14 +20,18 @@ returns-in_err-script-clause-ran g c =
       λ usable history stands. (history, refl, stands),
     )
 
+none_of_some : {X : Type 0} (fault : Option X) (its : X) → fault ≡ Some its → fault ≡ None → ⊥
+none_of_some None its is none = cc
+none_of_some (Some x) its is none = cc
+
 pub returns-in-Some-clause-ran : goal.returns-in-Some-clause-ran
 returns-in-Some-clause-ran g c =
     let (results, heard, over, ran) = c.in-Ok.ensures.run in
     let script = c.as_slice.result.now in
-    let told = all_told g.W.Write.contents g.K.Reported.text g.K.Reported.status_of 1 (record c.args.reporter.now { next = 1 }) results c.in-Ok.goes_on c.run_over.new.listener c.requires heard in (
+    let told = all_recorded g.W.Write.contents g.K.Reported.text g.K.Reported.status_of 1 (record c.args.reporter.now { next = 1 }) results c.in-Ok.goes_on c.run_over.new.listener c.requires heard in (
       one g.W.Write.contents g.K.Reported.text g.K.Reported.status_of script results c.in-Ok.goes_on,
       (read_bytes (g.R.Read.remaining c.args.input.now.inner) script c.in_ok-script.script.items c.as_slice.ensures.value c.in_ok-script.ensures.bytes, tt),
-      one_ran _ _ _ (λ quiet on. let no : ⊥ = cc in absurd no),
+      one_ran _ _ _ (λ quiet on. absurd (none_of_some c.run_over.new.listener.fault c.in-Some.fault c.in-Some.is quiet)),
       one_faulty g.W.Write.contents g.K.Reported.text g.K.Reported.status_of _ script c.args.reporter.now results c.in-Ok.goes_on c.run_over.new.listener c.in-Some.fault c.in-Some.is told,
       (over.0, sym over.1),
       λ usable history stands. let (made, after) = ran usable history stands in (made.last, (made, refl), after),
@@ -37,7 +41,7 @@ pub returns-in-Ok-clause-ran : goal.returns-in-Ok-clause-ran
 returns-in-Ok-clause-ran g c =
     let (results, heard, over, ran) = c.in-Ok.ensures.run in
     let script = c.as_slice.result.now in
-    let told = all_told g.W.Write.contents g.K.Reported.text g.K.Reported.status_of 1 (record c.args.reporter.now { next = 1 }) results c.in-Ok.goes_on c.run_over.new.listener c.requires heard in (
+    let told = all_recorded g.W.Write.contents g.K.Reported.text g.K.Reported.status_of 1 (record c.args.reporter.now { next = 1 }) results c.in-Ok.goes_on c.run_over.new.listener c.requires heard in (
       one g.W.Write.contents g.K.Reported.text g.K.Reported.status_of script results c.in-Ok.goes_on,
       (read_bytes (g.R.Read.remaining c.args.input.now.inner) script c.in_ok-script.script.items c.as_slice.ensures.value c.in_ok-script.ensures.bytes, tt),
       one_ran _ _ _ (λ quiet on. went_on c.in-Ok.goes_on on),

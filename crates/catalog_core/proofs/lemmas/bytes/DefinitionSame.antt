@@ -6,9 +6,9 @@ use Rattle.std.proofs.lemmas.Bool.{and_parts}
 use Rattle.std.proofs.lemmas.List.{append-nil}
 use Rattle.period_core.proofs.EncodingOrder as encoding
 use Rattle.period_core.specs.declared.value.Value.{Value}
-use Rattle.catalog_core.proofs.lemmas.bytes.DefinitionFronts.{behind_columns, behind_name, behind_period, fit, split}
+use Rattle.catalog_core.proofs.lemmas.bytes.DefinitionFronts.{fit, split, values_after_columns, values_after_name, values_after_period}
 use Rattle.catalog_core.proofs.lemmas.bytes.DefinitionParts.{reference_parts}
-use Rattle.catalog_core.proofs.lemmas.bytes.Fronts.{IsPrefixCode, any_all, behind_parent, column_code, counted_code, counted_length, period_rest, place_code, places_rest, reference_code, same_length}
+use Rattle.catalog_core.proofs.lemmas.bytes.Fronts.{IsPrefixCode, any_all, column_code, counted_code, counted_length, parent_first, period_rest, place_code, places_rest, reference_code, same_length}
 use Rattle.catalog_core.specs.bytes.DefinitionEncoding.{is_writable}
 use Rattle.catalog_core.specs.bytes.DefinitionLaws.{DefinitionReadsBack}
 use Rattle.catalog_core.specs.bytes.DefinitionReading.{is_any, is_column, is_small_reference}
@@ -21,7 +21,7 @@ use Rattle.catalog_core.specs.declared.table.PeriodColumns.{PeriodColumns}
 use Rattle.catalog_core.specs.declared.table.Reference.{Reference}
 use Rattle.catalog_core.specs.declared.table.TableDef.{TableDef}
 
--- where two fit parts begin the same values, they are the same part
+-- if two fit parts begin the same values, they are the same part
 abbrev IsExact : {A : Type 0} → (A → Bool) → (A → List Value) → Type 0
 IsExact {A} fits written = (x y : A) (a b : List Value) → fits x ≡ true → fits y ≡ true → written x ++ a ≡ written y ++ b → x ≡ y
 
@@ -115,7 +115,7 @@ reference_exact count x y a b left right same =
     let first = reference_parts count x ((and_parts (nat_lt x.parent 256) (is_reference count x) left).1) in
     let second = reference_parts count y ((and_parts (nat_lt y.parent 256) (is_reference count y) right).1) in
     let apart : number x.parent ∷ (counted place_values x.own ++ (flat_map place_values x.keys ++ a)) ≡ number y.parent ∷ (counted place_values y.own ++ (flat_map place_values y.keys ++ b)) =
-    sym (behind_parent x a) ∙ same ∙ behind_parent y b in
+    sym (parent_first x a) ∙ same ∙ parent_first y b in
     let parent : x.parent ≡ y.parent = cc in
     let lists : counted place_values x.own ++ (flat_map place_values x.keys ++ a) ≡ counted place_values y.own ++ (flat_map place_values y.keys ++ b) = ap (drop 1) apart in
     let own : x.own ≡ y.own = places_exact x.own y.own (flat_map place_values x.keys ++ a) (flat_map place_values y.keys ++ b) lists in
@@ -160,11 +160,11 @@ same_values d e left right same =
     let second = fit e right in
     let named = sym (split d) ∙ same ∙ split e in
     let name : d.name ≡ e.name = cc in
-    let one : behind_name d ≡ behind_name e = ap (drop 1) named in
-    let columns : d.columns ≡ e.columns = counted_exact is_column column_values column_code column_exact d.columns e.columns (behind_columns d) (behind_columns e) first.columned second.columned one in
-    let two : behind_columns d ≡ behind_columns e = counted_code is_column column_values column_code d.columns e.columns (behind_columns d) (behind_columns e) first.columned second.columned one in
-    let period : d.period ≡ e.period = period_exact d.period e.period (behind_period d) (behind_period e) two in
-    let three : behind_period d ≡ behind_period e = period_rest d.period e.period (behind_period d) (behind_period e) two in
+    let one : values_after_name d ≡ values_after_name e = ap (drop 1) named in
+    let columns : d.columns ≡ e.columns = counted_exact is_column column_values column_code column_exact d.columns e.columns (values_after_columns d) (values_after_columns e) first.columned second.columned one in
+    let two : values_after_columns d ≡ values_after_columns e = counted_code is_column column_values column_code d.columns e.columns (values_after_columns d) (values_after_columns e) first.columned second.columned one in
+    let period : d.period ≡ e.period = period_exact d.period e.period (values_after_period d) (values_after_period e) two in
+    let three : values_after_period d ≡ values_after_period e = period_rest d.period e.period (values_after_period d) (values_after_period e) two in
     let key : d.key ≡ e.key = places_exact d.key e.key (counted reference_values d.references) (counted reference_values e.references) three in
     let four : counted reference_values d.references ≡ counted reference_values e.references =
     places_rest d.key e.key (counted reference_values d.references) (counted reference_values e.references) three in
@@ -181,6 +181,7 @@ same_values d e left right same =
     ∙ ap (parts_with e.columns e.period e.key) references in
     same_definition d e name parts
 
+-- definitions with the same bytes are one definition
 pub reads_back : DefinitionReadsBack
 reads_back a b bytes (left, held, same) (right, kept, alike) =
     same_values a b left right (encoding.reads_back (definition_values a) (definition_values b) held kept (same ∙ sym alike))

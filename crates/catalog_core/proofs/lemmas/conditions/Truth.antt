@@ -12,12 +12,14 @@ use Rattle.sql_statements.specs.Trees.{Condition, any, all, more, negated, test,
 use Rattle.catalog_core.specs.Conditions.{each_satisfied, is_satisfied, some_satisfied}
 
 module _ {T : Type 0} where
+  -- an OR of the program, as a plain tree
   pub or_view : (first : Box (code.Tree T)) (others : Vec (code.Tree T))
       → plain_condition (code.Or first others) ≡ any (more (plain_condition first.value) (conditions_of (map plain_condition others.items)))
   or_view first others =
       ap plain_condition (sym (rolls.rolls-Or first others))
       ∙ fold-roll-Tree T (Condition T) condition_layer (layer.Or first others)
 
+  -- an AND of the program, as a plain tree
   pub and_view : (first : Box (code.Tree T)) (others : Vec (code.Tree T))
       → plain_condition (code.And first others) ≡ all (more (plain_condition first.value) (conditions_of (map plain_condition others.items)))
   and_view first others =
@@ -29,6 +31,7 @@ module _ {T : Type 0} where
       ap plain_condition (sym (rolls.rolls-Not part))
       ∙ fold-roll-Tree T (Condition T) condition_layer (layer.Not part)
 
+  -- a test of the program, as a plain tree
   pub test_view : (leaf : T) → plain_condition (code.Test leaf) ≡ test leaf
   test_view leaf = ap plain_condition (sym (rolls.rolls-Test leaf)) ∙ fold-roll-Tree T (Condition T) condition_layer (layer.Test leaf)
 
@@ -45,10 +48,12 @@ module _ {T : Type 0} (p : T → Bool) where
   each_of [] = refl
   each_of (part ∷ parts) = ap (λ b. truth p part && b) (each_of parts)
 
+  -- an OR is true if one of its parts is
   pub or_truth : (first : Box (code.Tree T)) (others : Vec (code.Tree T))
       → truth p (code.Or first others) ≡ (truth p first.value || list_any (truth p) others.items)
   or_truth first others = ap (is_satisfied p) (or_view first others) ∙ some_of (first.value ∷ others.items)
 
+  -- an AND is true if all of its parts are
   pub and_truth : (first : Box (code.Tree T)) (others : Vec (code.Tree T))
       → truth p (code.And first others) ≡ (truth p first.value && list_all (truth p) others.items)
   and_truth first others = ap (is_satisfied p) (and_view first others) ∙ each_of (first.value ∷ others.items)
@@ -56,6 +61,7 @@ module _ {T : Type 0} (p : T → Bool) where
   pub not_truth : (part : Box (code.Tree T)) → truth p (code.Not part) ≡ not (truth p part.value)
   not_truth part = ap (is_satisfied p) (not_view part)
 
+  -- a test alone has its own truth
   pub test_truth : (leaf : T) → truth p (code.Test leaf) ≡ p leaf
   test_truth leaf = ap (is_satisfied p) (test_view leaf)
 
@@ -63,6 +69,7 @@ pub or_right : (a b : Bool) → a ≡ false → b ≡ true → (a || b) ≡ true
 or_right true b e f = cc
 or_right false b e f = f
 
+-- an OR of two false values is false
 pub or_none : (a b : Bool) → a ≡ false → b ≡ false → (a || b) ≡ false
 or_none true b e f = cc
 or_none false b e f = f
@@ -71,6 +78,7 @@ pub and_right : (a b : Bool) → a ≡ true → b ≡ false → (a && b) ≡ fal
 and_right true b e f = f
 and_right false b e f = cc
 
+-- an AND of two true values is true
 pub and_both : (a b : Bool) → a ≡ true → b ≡ true → (a && b) ≡ true
 and_both true b e f = f
 and_both false b e f = cc

@@ -1,4 +1,4 @@
--- A key or a reference names a column that is no value column where one of the statement's columns is such and is keyed.
+-- A key or a reference names a column that is no value column if one of the statement's columns is such and is keyed.
 use Rattle.std.proofs.Common.{◌≡◌, ◌∷◌, ◌&&◌, ◌||◌, ◌∙◌, Bool, true, false, List, [], bytes_eq, refl, sym, ap}
 use Rattle.std.specs.List.{list_any}
 use Rattle.std.proofs.lemmas.Bool.{and_parts, false≢true, or_parts}
@@ -8,7 +8,7 @@ use Rattle.sql_statements.specs.declared.create.CreateTable.{CreateTable}
 use Rattle.sql_statements.specs.declared.create.KeyElement.{KeyElement}
 use Rattle.sql_statements.specs.declared.create.ReferenceElement.{ReferenceElement}
 use Rattle.catalog_core.proofs.lemmas.lists.AnyTests.{any_gives, any_weaker, or_right}
-use Rattle.catalog_core.proofs.lemmas.change.GivenValues.{any_counted}
+use Rattle.catalog_core.proofs.lemmas.lists.Counted.{any_counted}
 use Rattle.catalog_core.proofs.lemmas.create.Shape.{all_match}
 use Rattle.catalog_core.specs.create.Creation.{is_no_value_column, keys_period_column, own_matches, some_match, some_no_value}
 use Rattle.catalog_core.specs.create.Keyed.{is_keyed, some_keyed_non_value_column}
@@ -55,7 +55,7 @@ list_found names test other (x ∷ ks) some none =
           record { name = more.name; passes = more.passes; fails = more.fails; there = rw more.there (or_right (list_any (bytes_eq more.name) (names x))) })
     ]) refl some
 
--- what passes for a name passes for the lists that have it
+-- a name that passes passes for the lists that have it
 list_passes : {K : Type 0} (names : K → List Name) (test : Name → Bool) (name : Name) (ks : List K) → test name ≡ true → list_any (λ k. list_any (bytes_eq name) (names k)) ks ≡ true
     → list_any (λ k. list_any test (names k)) ks ≡ true
 list_passes {K} names test name ks passing some =

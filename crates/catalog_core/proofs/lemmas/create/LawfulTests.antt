@@ -1,4 +1,4 @@
--- A definition passes the tests of its names and places where some CREATE that is accepted gives it.
+-- A definition passes the tests of its names and places if some CREATE that is accepted gives it.
 use Rattle.std.proofs.Common.{◌≡◌, ◌<◌, ◌+◌, ◌∷◌, ◌&&◌, ◌||◌, ◌∙◌, ℕ, Bool, true, false, not, List, [], Some, arith, ap, bytes_eq, cond, count_by, length, lit≤, map, nat_le, nat_lt, refl, sym}
 use Rattle.std.specs.Prelude.{◌==◌, is_none}
 use Rattle.std.specs.List.{list_all, list_any}
@@ -88,7 +88,7 @@ passed_all tables d p = rw (p.limits, p.free, p.distinct, p.period, p.dated, p.s
 
 -- ==== no condition of the CREATE holds ====
 
--- what a test says of the references
+-- a test of the references
 each_reference : (tables : List TableDef) (d : TableDef) (p : ReferenceElement → Bool) → list_all has_distinct_names tables ≡ true → Passed tables d
     → ((r : Reference) → IsSoundReference tables d (spelled_reference tables d (elements d) r) r → p (spelled_reference tables d (elements d) r) ≡ false)
     → list_any p (map (spelled_reference tables d (elements d)) d.references) ≡ false
@@ -290,7 +290,7 @@ lawful_where_passed tables d distinct all =
     let passed = all_passed tables d all in
     (create_of tables d, none_applies tables d distinct passed, given_by tables d distinct passed)
 
--- ==== where some CREATE gives the definition ====
+-- ==== if some CREATE gives the definition ====
 
 references_passed : (tables : List TableDef) (d : TableDef) (references : List Reference) → list_all has_distinct_names tables ≡ true → IsPlaced d → list_all (is_reference (length d.columns)) references ≡ true
     → list_any (λ (x : ReferenceElement). is_none (parent_of tables x)) (map (spelled_reference tables d (elements d)) references) ≡ false

@@ -1,4 +1,4 @@
--- The names of a table's columns by their places, where no two columns share one: a name stands for its place alone.
+-- The names of a table's columns by their places, if no two columns share one: a name stands for its place alone.
 use Rattle.std.proofs.Common.{◌≡◌, ◌<◌, ◌+◌, ◌∷◌, ◌&&◌, ◌||◌, ◌∙◌, ℕ, zero, suc, Bool, true, false, List, [], None, Some, arith, ap, ap₂, bytes_eq, cond, count_by, get_or, length, map, nat_lt, refl, sym}
 use Rattle.std.specs.Prelude.{◌==◌, find, slice_get}
 use Rattle.std.specs.List.{list_all, list_any, position, position_or_len}
@@ -29,7 +29,7 @@ both_ways true b there back = sym (there refl)
 both_ways false true there back = back refl
 both_ways false false there back = refl
 
--- two tests that agree where a third holds
+-- two tests that agree if a third holds
 pub any_where : {X : Type 0} (q f g : X → Bool) → ((x : X) → q x ≡ true → f x ≡ g x) → (xs : List X) → list_all q xs ≡ true → list_any f xs ≡ list_any g xs
 any_where q f g same [] all = refl
 any_where q f g same (x ∷ xs) all =
@@ -60,7 +60,7 @@ none_where q p none (x ∷ xs) all =
 pub counted_cons : {X : Type 0} (p : X → Bool) (x : X) (xs : List X) → count_by p (x ∷ xs) ≡ cond (p x) 1 0 + count_by p xs
 counted_cons p x xs = sum_by-cons (λ y. cond (p y) 1 0) x xs
 
--- what stands at a place
+-- the element at a place
 pub at_place : {X : Type 0} (xs : List X) (i : ℕ) → i < length xs → (x : X) × (slice_get xs i ≡ Some x)
 at_place [] i here = absurd (omega (arith, here))
 at_place (x ∷ xs) zero here = (x, refl)
@@ -81,7 +81,7 @@ named other t i = name_at (λ (x : Column). x.name) other t.columns i
 pub named_there : (other : Name) (t : TableDef) (i : ℕ) (x : Column) → slice_get t.columns i ≡ Some x → named other t i ≡ x.name
 named_there other t i x there = ap (name_or column_name other) there
 
--- it stands for the place
+-- the name of the column at a place stands for that place
 pub placed_there : (t : TableDef) (i : ℕ) (x : Column) → has_distinct_names t ≡ true → slice_get t.columns i ≡ Some x → def_place t x.name ≡ Some i
 placed_there t i x distinct there =
     its_place t i x distinct (slice_get_within t.columns i x there) (sym (get_or_from_slice_get t.columns i x x there))
@@ -104,7 +104,7 @@ names_apart other t i k distinct first second =
     eq-eqb i k (same_Some i k (sym (place_named other t i distinct first) ∙ ap (def_place t) same ∙ place_named other t k distinct second)))
     (λ e. (bytes_eq-Decides (named other t i) (named other t k)).1 (ap (named other t) (eqb-true i k e)))
 
--- it matches one column
+-- the name of the column at a place matches one column
 pub matched_once : (t : TableDef) (i : ℕ) (x : Column) → has_distinct_names t ≡ true → slice_get t.columns i ≡ Some x → def_matches t x.name ≡ 1
 unfolding matches_among
 matched_once t i x distinct there =
@@ -156,7 +156,7 @@ counted_names other t i (place ∷ places) distinct here within =
     ∙ ap₂ (λ (b : Bool) (n : ℕ). cond b 1 0 + n) (names_apart other t i place distinct here parts.0 ∙ same_number i place) (counted_names other t i places distinct here parts.1)
     ∙ sym (counted_cons (λ k. k == i) place places)
 
--- names repeat where places do
+-- names repeat if places do
 pub repeated_names : (other : Name) (t : TableDef) (places : List ℕ) → has_distinct_names t ≡ true → are_places (length t.columns) places ≡ true
     → repeats (map (named other t) places) ≡ repeats_place places
 unfolding repeats repeats_place matches_among is_matching
@@ -193,7 +193,7 @@ keyed_places other t places distinct keys within =
     ∙ any_where inside (λ i. is_at t place (named other t i)) (λ i. i == place) (λ i here. at_key other t place i distinct there here) places within) t.key keys in
     rw (first, second) refl
 
--- what is among the key's places is among the columns
+-- the key's places are among the columns
 pub key_within : (t : TableDef) (n : ℕ) (places : List ℕ) → are_places n t.key ≡ true → list_all (has_place t.key) places ≡ true → are_places n places ≡ true
 unfolding has_place
 key_within t n [] keys all = refl

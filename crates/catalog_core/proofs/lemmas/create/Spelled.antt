@@ -162,7 +162,7 @@ spelled_one tables c d none defines =
     ∙ ap (create_element d.name c.columns spelled.periods spelled.system_periods spelled.keys) references
     ∙ ap (create_with tables d) (columns_declared c.columns d.columns defines.columns)
 
--- so where some CREATE that is accepted gives the definition, this one does
+-- so if some CREATE that is accepted gives the definition, this one does
 pub spelled_given : (tables : List TableDef) (c : CreateTable) (d : TableDef) → c ≡ create_of tables d → IsLawful tables d → NoneApplies (Holds (create_conditions tables c)) × Defines tables c d
 spelled_given tables c d is given =
     let Gives : CreateTable → Type 0 = λ x. NoneApplies (Holds (create_conditions tables x)) × Defines tables x d in

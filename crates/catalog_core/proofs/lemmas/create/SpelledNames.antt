@@ -1,4 +1,4 @@
--- What the CREATE that spells a definition says of its names and columns, by the definition's own.
+-- The names and columns of the CREATE that spells a definition, by the definition's own.
 use Rattle.std.proofs.Common.{◌≡◌, ◌<◌, ◌+◌, ◌∷◌, ◌&&◌, ◌||◌, ◌∙◌, ℕ, suc, Bool, true, false, not, List, [], Option, None, Some, arith, ap, ap₂, bytes_eq, cond, count_by, get_or, length, map, nat_le, nat_lt, refl, sym}
 use Rattle.std.specs.Prelude.{◌==◌, find, is_some, slice_get}
 use Rattle.std.specs.List.{list_all, list_any}
@@ -181,9 +181,9 @@ sort_at wanted (x ∷ xs) some =
       | false ↦ (λ e s. sort_later wanted x xs e (sort_at wanted xs (omega (arith, s))))
     ]) refl (omega (arith, some, counted))
 
--- ==== where no two columns share a name ====
+-- ==== if no two columns share a name ====
 
--- what its columns keep
+-- the columns of a placed definition
 pub record IsPlaced (d : TableDef) : Type 0 where
   pub distinct : has_distinct_names d ≡ true
   pub dated : has_date_period d ≡ true
@@ -301,7 +301,7 @@ value_at d i value =
       | Some x ↦ (λ e v. (x, e))
     ]) refl value
 
--- a name is that of a value column where its place is one
+-- a name is that of a value column if its place is one
 value_named : (tables : List TableDef) (d : TableDef) (i : ℕ) → IsPlaced d → is_value_place d i ≡ true → is_no_value_column (create_of tables d) (own_name d (elements d) i) ≡ false
 value_named tables d i placed value =
     let at = value_at d i value in
@@ -320,7 +320,7 @@ named_value tables d i placed here other =
 
 -- ==== the names of a key or of a reference ====
 
--- what its own columns say
+-- the columns of the definition's own
 pub record OwnNames (tables : List TableDef) (d : TableDef) (places : List ℕ) : Type 0 where
   pub once : repeats (map (own_name d (elements d)) places) ≡ false
   pub value : some_no_value (create_of tables d) (map (own_name d (elements d)) places) ≡ false

@@ -74,7 +74,8 @@ none_either {X} p q (x ∷ xs) none =
       | false ↦ (λ e. or_from (q x && false) rest (and_right (q x) false refl) (none_either p q xs e))
     ]) none
 
--- where one element passes a test, it is the first that does, and passes what some element passes with it
+-- if one element passes a test, it is the first that does, and passes each test that some element
+-- passes with it
 only_found : {X : Type 0} (p q : X → Bool) (xs : List X) → length (filter p xs) ≤ 1 → list_any (λ x. q x && p x) xs ≡ true → (x : X) × (find p xs ≡ Some x) × (q x ≡ true)
 only_found p q [] few some = absurd (false≢true some)
 only_found {X} p q (x ∷ xs) few some =

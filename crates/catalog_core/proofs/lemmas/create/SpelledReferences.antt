@@ -1,4 +1,4 @@
--- What the CREATE that spells a definition says of its references, by their places.
+-- The references of the CREATE that spells a definition, by their places.
 use Rattle.std.proofs.Common.{◌≡◌, ◌∷◌, ◌&&◌, ◌||◌, ◌∙◌, ℕ, zero, suc, Bool, true, false, not, List, [], Option, None, Some, ap, bytes_eq, length, map, nat_lt, refl, subst, sym}
 use Rattle.std.specs.Prelude.{◌==◌, is_none, slice_get, unwrap_or}
 use Rattle.std.specs.List.{list_all}
@@ -94,7 +94,7 @@ one_period : (tables : List TableDef) (d : TableDef) → is_matching Zero (perio
 unfolding is_matching period_matches
 one_period tables d = rw (same_name d.period.name) refl
 
--- what the parent says
+-- the test of the parent
 same_parent : (tables : List TableDef) (d t : TableDef) (r : Reference) (p : TableDef → Bool) → HasParent tables d t r → passes p (parent_of tables (reference_to d (elements d) t r)) ≡ p t
 same_parent tables d t r p has = ap (passes p) (parent_found tables d t r has)
 
@@ -161,7 +161,7 @@ sound_placed tables d r distinct placed fits passing =
     let it = parent_of_placed tables d r distinct fits passing in
     subst (λ (x : ReferenceElement). IsSoundReference tables d x r) (sym (spelled_to tables d it.0 r it.1.there)) (sound_reference tables d it.0 r placed it.1 it.2)
 
--- ==== where no condition of a reference holds, it passes the test ====
+-- ==== if no condition of a reference holds, it passes the test ====
 
 pub record Unrefused (tables : List TableDef) (d : TableDef) (x : ReferenceElement) (r : Reference) : Type 0 where
   pub parent : is_none (parent_of tables x) ≡ false

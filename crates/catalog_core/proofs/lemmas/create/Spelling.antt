@@ -1,5 +1,5 @@
--- How a definition is spelled as a CREATE, with names for places.
--- Where a name is sought that isn't there, the table's own name is in its place: no CREATE that is
+-- The CREATE that spells a definition, with names for places.
+-- If a name is sought that is missing, the table's own name is in its place: no CREATE that is
 -- accepted gives such a definition.
 use Rattle.std.specs.Prelude.{◌∷◌, ℕ, List, [], Option, Some, None, find, map, slice_get, unwrap_or}
 use Rattle.sql_statements.specs.declared.create.TypeName.{TypeName}
@@ -32,7 +32,7 @@ spelled_type Date = type_name.Date
 spelled_type (RowStart p) = type_name.Timestamp p
 spelled_type (RowEnd p) = type_name.Timestamp p
 
--- what it is generated as
+-- the side of the period that a column is generated as
 abbrev pub spelled_side : ColumnKind → Option Generated
 spelled_side Integer = None
 spelled_side (Varchar n) = None

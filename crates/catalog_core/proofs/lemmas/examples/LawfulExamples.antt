@@ -39,7 +39,7 @@ emp =
 abbrev create : CreateTable
 create = create_of (dep ∷ []) emp
 
--- it is accepted, and gives the definition
+-- the definition of EMP is lawful after DEP
 lawful : IsLawful (dep ∷ []) emp
 unfolding place_among declared_reference declared_kind matches_among period_matches some_match_among some_parent_match some_match has_sort sort_count exceeds_limits is_there lacks_parent names_other_period lacks_period lacks_name is_ambiguous is_shared repeats repeats_name is_no_value_column some_no_value keys_period_column lacks_one_of_each has_bad_period has_bad_system_period is_bad_type has_bad_column is_used_otherwise has_other_period is_at is_key_name is_named are_key names_no_key references_no_key is_bad_definition has_unequal_lists own_kind def_kind have_other_kinds names_other_kind references_other_kind is_matching is_of_sort number_of table_of_name kind_of_type kind_of_column same_kind differ find_among
 lawful = (
@@ -48,7 +48,7 @@ lawful = (
   record { name = refl; columns = refl; period = refl; key = refl; references = refl },
 )
 
--- nor EMP where its parent is not there
+-- nor EMP if its parent is missing
 without_parent : IsLawful [] emp → ⊥
 unfolding lacks_parent number_of table_of_name
 without_parent given = (spelled_given [] (create_of [] emp) emp refl given).0 UnknownTable (inr (inr (inl (refl, refl))))

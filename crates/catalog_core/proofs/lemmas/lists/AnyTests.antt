@@ -7,6 +7,11 @@ pub or_right : (b : Bool) → (b || true) ≡ true
 or_right true = refl
 or_right false = refl
 
+-- a test that nothing passes
+pub any_false : {X : Type 0} (xs : List X) → list_any (λ x. false) xs ≡ false
+any_false [] = refl
+any_false (x ∷ xs) = any_false xs
+
 -- two tests that agree
 pub any_same : {X : Type 0} (f g : X → Bool) → ((x : X) → f x ≡ g x) → (xs : List X) → list_any f xs ≡ list_any g xs
 any_same f g same [] = refl
@@ -24,7 +29,7 @@ any_weaker p q weaker (x ∷ xs) some =
 pub none_stronger : {X : Type 0} (p q : X → Bool) → ((x : X) → p x ≡ true → q x ≡ true) → (xs : List X) → list_any q xs ≡ false → list_any p xs ≡ false
 none_stronger p q weaker xs none = false_from_ne_true (list_any p xs) (λ some. false≢true (sym none ∙ any_weaker p q weaker xs some))
 
--- what each element that passes gives
+-- the consequence that each passing element has
 pub any_gives : {X : Type 0} (p : X → Bool) (b : Bool) → ((x : X) → p x ≡ true → b ≡ true) → (xs : List X) → list_any p xs ≡ true → b ≡ true
 any_gives p b gives [] some = absurd (false≢true some)
 any_gives p b gives (x ∷ xs) some =

@@ -6,7 +6,7 @@ use Rattle.std.proofs.lemmas.Bool.{and_from, and_parts}
 use Rattle.catalog_core.specs.declared.query.resolved.QueryReference.{QueryReference}
 use Rattle.catalog_core.specs.query.Fitting.{are_in_place}
 
--- those of the second part go on where those of the first end
+-- the references of the second part go on where those of the first end
 both_in_place
     : (place : ℕ) (xs ys : List QueryReference) → are_in_place place (xs ++ ys) ≡ true
     → (are_in_place place xs ≡ true) × (are_in_place (place + length xs) ys ≡ true)

@@ -1,4 +1,4 @@
--- Where no two columns share a name, a column's name stands for its own place.
+-- If no two columns share a name, a column's name stands for its own place.
 use Rattle.std.proofs.Common.{◌≡◌, ◌<◌, ◌≤◌, ◌∷◌, ◌&&◌, ◌||◌, ◌∙◌, ℕ, zero, suc, Bool, true, false, not, List, [], None, Some, cond, bytes_eq, count_by, nat_lt, get_or, length, filter, refl, sym, ap, arith}
 use Rattle.std.specs.List.{list_any, position}
 use Rattle.std.proofs.lemmas.Bool.Decides.{nat_tests}
@@ -23,7 +23,7 @@ kept_some p (x ∷ xs) (suc i) d here passing =
     let more : 0 < length (filter p xs) = kept_some p xs i d (omega (arith, here)) passing in
     (elim (p x) as (λ b. 0 < length (cond b (x ∷ filter p xs) (filter p xs))) [ true ↦ omega (arith, more) | false ↦ more ])
 
--- of elements that pass there is one, where no more than one is kept
+-- of elements that pass there is one, if no more than one is kept
 same_place : {X : Type 0} (p : X → Bool) (xs : List X) (i k : ℕ) (d : X) → i < length xs → k < length xs
     → p (get_or xs i d) ≡ true → p (get_or xs k d) ≡ true → length (filter p xs) ≤ 1 → i ≡ k
 same_place p [] i k d first second one other few = absurd (omega (arith, first))
@@ -57,7 +57,7 @@ or_false : (b : Bool) → (b || false) ≡ b
 or_false true = refl
 or_false false = refl
 
--- what a test says of the one element that passes another
+-- a test of the one element that passes another
 pub only_one : {X : Type 0} (p q : X → Bool) (xs : List X) (i : ℕ) (d : X) → i < length xs → p (get_or xs i d) ≡ true → length (filter p xs) ≤ 1
     → list_any (λ y. p y && q y) xs ≡ q (get_or xs i d)
 only_one p q [] i d here passing few = absurd (omega (arith, here))

@@ -1,7 +1,7 @@
 use Rattle.std.proofs.Common.{List, Option, ⊎_elim, inl, inr, map, option_map, rules, string_bytes, subst, sym}
 use Rattle.clap.specs.Words.{Row, Text, subcommand_of}
 use Rattle.command_line.specs.CommandLine.{Chooses, IsLineFault, bitemporal}
-use Rattle.command_line.proofs.ClapClauses.{none_found, one_found, only_memory, told_of, told_wider}
+use Rattle.command_line.proofs.ClapClauses.{fault_for_kinds, none_found, one_found, only_memory, reported_wider}
 use Rattle.command_line.proofs.CommandLines.{chosen_word, is_simple_and_free-bitemporal, read_as, row_of_subcommand, same_choice}
 use Rattle.command_line.proofs.command.command_line.Goals as goal
 
@@ -16,7 +16,7 @@ returns-in-Err-clause-accepts g c mode file asks =
 pub returns-in-Err-clause-refused : goal.returns-in-Err-clause-refused
 returns-in-Err-clause-refused g c =
     let found = one_found bitemporal _ _ c.in-Ok-command.ensures c.in-Err.fault is_simple_and_free-bitemporal c.in-Err.ensures.kinds in
-    told_of _ _ c.in-Err.fault _ found c.of_clap.ensures.memory c.of_clap.ensures.told (λ kind among. inl among)
+    fault_for_kinds _ _ c.in-Err.fault _ found c.of_clap.ensures.memory c.of_clap.ensures.told (λ kind among. inl among)
 
 pub returns-in_default-mode_of-clause-accepts : goal.returns-in_default-mode_of-clause-accepts
 returns-in_default-mode_of-clause-accepts g c mode file asks =
@@ -32,4 +32,4 @@ returns-in-Ok-file_of-clause-accepts g c mode file asks =
     same_choice _ _ _ _ _ found (read_as said mode file asks).1
 
 pub returns-in_default-mode_of-clause-refused : goal.returns-in_default-mode_of-clause-refused
-returns-in_default-mode_of-clause-refused g c = told_wider _ (IsLineFault (map g.S.AsStr.text c.args.words.now)) _ (λ kind none. inr none) c.no_subcommand-in_default-mode_of.ensures
+returns-in_default-mode_of-clause-refused g c = reported_wider _ (IsLineFault (map g.S.AsStr.text c.args.words.now)) _ (λ kind none. inr none) c.no_subcommand-in_default-mode_of.ensures

@@ -12,4 +12,5 @@ writes-preserved g c =
     record {
       bounded = omega (arith, c.writes.invariant.bounded, bound, length-drop written text);
       taken = rw (take-add written c.in-Ok.count text) (Appends-trans _ _ _ _ _ c.writes.invariant.taken more);
+      failed = λ before. c.write.ensures.stays (c.writes.invariant.failed before);
     }

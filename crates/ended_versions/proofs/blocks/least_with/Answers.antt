@@ -10,7 +10,7 @@ loop-place-preserved c =
     let place : ℕ = c.loop-place.place in
     record {
       inside = omega (arith, inv.inside, c.block_start-place.ensures, and_le_r (place - 1 + 1) (place - 1), c.loop-place-test.true);
-      own = (let first = c.earlier-least.ensures.by_first in let was = inv.own in omega (arith, ints));
-      others = least_on c.args.entries.now c.index-entries-place.result c.loop-place.least c.earlier-least.result place c.block_start-place.result c.requires (omega (arith, c.loop-place-test.true)) inv.inside
-          c.index-entries-place.is c.block_start-place.ensures c.earlier-least.ensures.by_second c.earlier-least.ensures.by_first inv.others;
+      own = (let first = c.earlier-earliest_from.ensures.by_first in let was = inv.own in omega (arith, ints));
+      others = least_on c.args.entries.now c.index-entries-place.result c.loop-place.earliest_from c.earlier-earliest_from.result place c.block_start-place.result c.requires (omega (arith, c.loop-place-test.true)) inv.inside
+          c.index-entries-place.is c.block_start-place.ensures c.earlier-earliest_from.ensures.by_second c.earlier-earliest_from.ensures.by_first inv.others;
     }

@@ -32,6 +32,6 @@ loop-place-preserved c =
       same =
           c.loop-place.invariant.same
           ∙ (ap (λ n. filter (is_seen window) (take n entries)) more
-          ∙ (none_of_block window entries entry place c.requires.least inside c.index-entries-place.is start (sym c.begins_early.ensures ∙ c.if-begins_early.false)
+          ∙ (none_of_block window entries entry place c.requires.earliest_from inside c.index-entries-place.is start (sym c.begins_early.ensures ∙ c.if-begins_early.false)
           ∙ ap (λ n. filter (is_seen window) (take n entries)) (sym c.block_start-place.ensures)));
     }

@@ -4,7 +4,7 @@ use Rattle.std.proofs.lemmas.List.{get_or_default}
 use Rattle.sql_statements.specs.Plain.{plain_condition}
 use Rattle.sql_statements.specs.declared.tree.Tree as code
 use Rattle.catalog_core.specs.declared.condition.CompareValues.{CompareValues}
-use Rattle.period_keys.specs.FixedKeys.{Equates, IsEquation}
+use Rattle.period_keys.specs.FixedKeys.{IsComparison, States}
 use Rattle.period_keys.proofs.fixed_keys.value_by_one.Goals as goal
 
 pub loop-condition-init : goal.loop-condition-init
@@ -20,7 +20,7 @@ loop-condition-preserved c = λ k d below value says.
       | inr more ↦
           let same : k ≡ i = omega (arith, below, more) in
           let at : get_or conditions k d ≡ here = ap (λ n. get_or conditions n d) same ∙ get_or_default conditions i d here c.loop-condition-test.true ∙ sym c.condition-item.is in
-          c.in_default.ensures value (subst (λ (p : code.Tree CompareValues). Equates IsEquation (plain_condition p) c.args.place value) at says)
+          c.in_default.ensures value (subst (λ (p : code.Tree CompareValues). States (IsComparison c.args.comparison) (plain_condition p) c.args.place value) at says)
     ]
 
 pub returns-in-Some : goal.returns-in-Some
@@ -29,4 +29,4 @@ returns-in-Some c = (c.loop-condition.condition-index, c.condition-item.result, 
 pub returns : goal.returns
 returns c = λ value says.
     c.loop-condition.invariant says.0 says.1 (omega (arith, says.2, c.loop-condition-test.false)) value
-    (subst (λ (p : code.Tree CompareValues). Equates IsEquation (plain_condition p) c.args.place value) (sym says.3) says.4)
+    (subst (λ (p : code.Tree CompareValues). States (IsComparison c.args.comparison) (plain_condition p) c.args.place value) (sym says.3) says.4)

@@ -7,7 +7,7 @@ use Rattle.period_keys.specs.Gaps.{IsHeld}
 use Rattle.period_keys.proofs.Members.{Any-append}
 use Rattle.period_keys.proofs.gaps.end_of_holder.Goals as goal
 
--- it holds the day, and ends then
+-- a period that holds the day, and ends then
 abbrev Ends : ℤ → ℤ → Period → Type 0
 Ends day end period = IsWithin period day × (period.end ≡ end)
 
@@ -20,7 +20,7 @@ returns-in-Some-end_near c = (Any-append (Ends c.args.day c.in-Some-end_near.end
 pub returns-in-Some-end_of_any : goal.returns-in-Some-end_of_any
 returns-in-Some-end_of_any c = (Any-append (Ends c.args.day c.in-Some-end_of_any.end) c.args.first.now c.args.second.now).1 (inl c.in-Some-end_of_any.ensures)
 
--- where the first list has none, one is of the second
+-- if the first list has none, one is of the second
 of_second : (first second : List Period) (day : ℤ) (found : Option ℤ) → (IsHeld first day → ⊥) → MatchOption found (IsHeld second day → ⊥) (λ end. Any (Ends day end) second)
     → MatchOption found (IsHeld (first ++ second) day → ⊥) (λ end. Any (Ends day end) (first ++ second))
 of_second first second day (Some end) none found = (Any-append (Ends day end) first second).1 (inr found)

@@ -17,7 +17,7 @@ later periods period place after k d from inside same =
     let less : period.start <ℤ (get_or periods k d).start = after k d from inside in
     omega (arith, ints)
 
--- where it would start later than each before this place, and is none from there on, it is absent
+-- a period that would start later than each before this place, and is none from there on, is absent
 absent : (periods : List Period) (period : Period) (place : ℕ) (here : Period) → AreInOrder periods → place < length periods → here ≡ get_or periods place here → here.start <ℤ period.start
     → IsPassed periods period (place + 1) → Contains periods period → ⊥
 absent periods period place here order below is early passed (k, inside, same) =

@@ -7,7 +7,7 @@ use Rattle.period_keys.specs.Lawful.{Refers}
 use Rattle.period_keys.proofs.ReferenceFacts.{fault_by_parent, fault_elsewhere}
 use Rattle.period_keys.proofs.reference_faults.fault_by.Goals as goal
 
--- what the tables refer to
+-- the table that a reference refers to
 refers_to : (definitions : List TableDef) (number : ℕ) (child : TableDef) (reference : Reference) (parent : TableDef) → table_of definitions number ≡ Some child → Contains child.references reference
     → table_of definitions reference.parent ≡ Some parent → Refers definitions number child reference parent
 refers_to definitions number child reference parent is there parent_is = record { is_child = is; is_reference = there; is_parent = parent_is }

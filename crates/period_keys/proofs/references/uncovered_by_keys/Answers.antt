@@ -18,7 +18,7 @@ use Rattle.period_keys.proofs.references.uncovered_by_keys.Goals as goal
 pub loop-key-init : goal.loop-key-init
 loop-key-init c = λ keys before ended stay added is gone_is new_is moved. least_none (λ key day. LosesParent (periods_of_key keys (stay ++ added)) c.args.children.now key day)
 
--- what the function that was called says of the key's periods, of the indexes
+-- the key's periods in the indexes, by the clauses of the function that was called
 of_indexes : (parents gone new : KeyedPeriods) (key : List Value) (xs gs ns made there : List Period) → xs ≡ periods_at parents key → gs ≡ periods_at gone key → ns ≡ periods_at new key → there ≡ made
     → ((stay : List Period) → IsPermutation xs (gs ++ stay) → IsPermutation made (stay ++ ns))
     → (stay : List Period) → IsPermutation (periods_at parents key) (periods_at gone key ++ stay) → IsPermutation there (stay ++ periods_at new key)

@@ -2,10 +2,10 @@ use Rattle.std.proofs.Common.{List, sym, subst}
 use Rattle.std.specs.List.{AllPairs}
 use Rattle.period_core.specs.declared.row.PeriodRow.{PeriodRow}
 use Rattle.coalesce_core.specs.Coalesced.{NotAfter}
-use Rattle.coalesce_core.proofs.Order.{sorted_rows}
 use Rattle.period_keys.specs.Keys.{IsLeastOf}
 use Rattle.period_keys.specs.Repeats.{Repeats}
 use Rattle.period_keys.proofs.Leasts.{IsLeastOf-same}
+use Rattle.period_keys.proofs.RowOrder.{sorted_rows}
 use Rattle.period_keys.proofs.SweepSteps.{repeats_moved}
 use Rattle.period_keys.proofs.sweep.least_repeat.Goals as goal
 

@@ -1,6 +1,6 @@
 use Rattle.std.proofs.Common.{◌≡◌, ◌∙◌, ◌⊎◌, List, Ok, Err, Result, ap, subst}
 use Rattle.std.specs.Prelude.{IfErr, IfOk, IsTrue}
-use Rattle.catalog_core.specs.change.Resolution.{has_empty_row}
+use Rattle.catalog_core.specs.change.EmptyRows.{has_empty_row}
 use Rattle.catalog_core.specs.declared.change.Action.{Action}
 use Rattle.catalog_core.specs.declared.change.Action.TheVariants.{Insert}
 use Rattle.catalog_core.specs.declared.change.InsertedRow.{InsertedRow}

@@ -28,7 +28,7 @@ remove-taken-requires c =
     let size = c.args.left.now.ok.0 in
     omega (arith, below, same, size)
 
--- what is left once it is taken out
+-- the items without the one that is taken out
 without : (items rest : List (Bor VersionRow)) (place : ℕ) (here : Bor VersionRow) (version : VersionRow) → slice_get (map now_of items) place ≡ Some version → slice_get items place ≡ Some here
     → place < length items → here ≡ here → IsPermutation items (here ∷ rest) → IsPermutation (map now_of items) (version ∷ map now_of rest)
 without items rest place here version found there below same moved =

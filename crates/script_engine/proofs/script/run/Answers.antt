@@ -7,15 +7,15 @@ use Rattle.sql_front.specs.declared.token_spans.TokenSpan.{TokenSpan}
 use Rattle.version_store.proofs.Beside.{spares_then}
 use Rattle.script_engine.specs.declared.script.listener.AllKept.{AllKept}
 use Rattle.script_engine.specs.script.Keeping.{AddsWhereRoom}
-use Rattle.script_engine.specs.script.Listening.{HearsAll, StepFront}
-use Rattle.script_engine.specs.script.Script.{IsCutInto, KeptStepOver, StepPieces}
+use Rattle.script_engine.specs.script.Listening.{ReceivesAll, StepFront}
+use Rattle.script_engine.specs.script.Script.{IsCutInto, StepPieces}
 use Rattle.script_engine.proofs.ListeningFacts.{all_kept, front_is_whole}
 use Rattle.script_engine.proofs.ScriptFacts.{not_bad}
 use Rattle.script_engine.proofs.script.run.Goals as goal
 
--- the results that were kept are those of all pieces, however the steps are told
+-- the results that were kept are those of all pieces, however the steps are reported
 all_pieces : {H R : Type 0} (IsStep : H → List Lexeme → R → H → Type 0) (opening : H) (pieces : List (List Lexeme)) (room : AllKept R) (results : List R) (goes_on : Bool) (kept : AllKept R) (last : H) → room.kept.items ≡ [] →
-    vec_len room.kept + length results ≤ vec_capacity room.kept → HearsAll AddsWhereRoom 1 room results goes_on kept → StepFront IsStep opening pieces results goes_on last → StepPieces IsStep opening pieces kept.kept.items last
+    vec_len room.kept + length results ≤ vec_capacity room.kept → ReceivesAll AddsWhereRoom 1 room results goes_on kept → StepFront IsStep opening pieces results goes_on last → StepPieces IsStep opening pieces kept.kept.items last
 all_pieces IsStep opening pieces room results goes_on kept last none space heard run =
     let (items, whole) = all_kept 1 room results goes_on kept heard space in
     subst (λ (rs : List _). StepPieces IsStep opening pieces rs last) (sym (items ∙ ap (λ xs. xs ++ results) none))
@@ -53,7 +53,7 @@ returns-clause-over g c =
           pieces = pieces;
           cut = cut;
           last = c.run_pieces.new.engine;
-          run = all_pieces (KeptStepOver g.S.Store g.K.PieceResult.result_of) c.in-Ok-open.engine pieces (record { kept = room }) results c.run_pieces.result c.run_pieces.new.listener c.run_pieces.new.engine c.in-Ok-with_capacity.ensures.items space heard over;
+          run = all_pieces g.K.PieceResult.is_step_over c.in-Ok-open.engine pieces (record { kept = room }) results c.run_pieces.result c.run_pieces.new.listener c.run_pieces.new.engine c.in-Ok-with_capacity.ensures.items space heard over;
         },
         refl,
       ),

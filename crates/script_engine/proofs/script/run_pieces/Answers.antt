@@ -4,7 +4,7 @@ use Rattle.sql_front.specs.TokenSpans.{lexemes_at}
 use Rattle.sql_front.specs.Pieces.{spanned}
 use Rattle.sql_front.specs.declared.pieces.Span.{Span}
 use Rattle.version_store.proofs.Beside.{spares_same, spares_then}
-use Rattle.script_engine.specs.script.Script.{KeptStepOver, StepPieces}
+use Rattle.script_engine.specs.script.Script.{StepPieces}
 use Rattle.script_engine.proofs.ListeningFacts.{front_of, hears_more, whole_front}
 use Rattle.script_engine.proofs.PieceSteps.{run_next}
 use Rattle.script_engine.proofs.script.run_pieces.Goals as goal
@@ -29,7 +29,7 @@ loop-i-preserved g c =
         results ++ kept ∷ [],
         hears_more g.L.Listener.hears 1 (c.loop-i.i + 1) c.args.listener.now results c.loop-i.listener kept true c.hear.new.self at heard (rw c.if-not-hear.false at c.hear.ensures),
         omega (arith, count, length_push results kept),
-        run_next (KeptStepOver g.S.Store g.K.PieceResult.result_of) c.args.engine.now c.args.script.now c.args.tokens.now c.args.pieces.now c.loop-i.i (record { start = 0; end = 0 }) results (results ++ kept ∷ []) c.loop-i.engine kept c.run_piece-kept.new.engine inside refl over c.run_piece-kept.ensures.over,
+        run_next g.K.PieceResult.is_step_over c.args.engine.now c.args.script.now c.args.tokens.now c.args.pieces.now c.loop-i.i (record { start = 0; end = 0 }) results (results ++ kept ∷ []) c.loop-i.engine kept c.run_piece-kept.new.engine inside refl over c.run_piece-kept.ensures.over,
         λ usable history represents.
             let (last, run, stands) = ran (c.run_piece-kept.ensures.usable usable) history represents in
             let (new, step, after) = c.run_piece-kept.ensures.step usable last stands in
@@ -46,8 +46,8 @@ returns-then-not-hear-clause-run g c =
       results ++ kept ∷ [],
       hears_more g.L.Listener.hears 1 (c.loop-i.i + 1) c.args.listener.now results c.loop-i.listener kept false c.hear.new.self at heard (rw c.if-not-hear.true at c.hear.ensures),
       omega (arith, count, length_push results kept),
-      front_of (KeptStepOver g.S.Store g.K.PieceResult.result_of) c.args.engine.now (lexemes_at c.args.script.now c.args.tokens.now) c.args.pieces.now (c.loop-i.i + 1) (results ++ kept ∷ []) c.run_piece-kept.new.engine
-          (run_next (KeptStepOver g.S.Store g.K.PieceResult.result_of) c.args.engine.now c.args.script.now c.args.tokens.now c.args.pieces.now c.loop-i.i (record { start = 0; end = 0 }) results (results ++ kept ∷ []) c.loop-i.engine kept c.run_piece-kept.new.engine inside refl over c.run_piece-kept.ensures.over),
+      front_of g.K.PieceResult.is_step_over c.args.engine.now (lexemes_at c.args.script.now c.args.tokens.now) c.args.pieces.now (c.loop-i.i + 1) (results ++ kept ∷ []) c.run_piece-kept.new.engine
+          (run_next g.K.PieceResult.is_step_over c.args.engine.now c.args.script.now c.args.tokens.now c.args.pieces.now c.loop-i.i (record { start = 0; end = 0 }) results (results ++ kept ∷ []) c.loop-i.engine kept c.run_piece-kept.new.engine inside refl over c.run_piece-kept.ensures.over),
       λ usable history represents.
           let (last, run, stands) = ran (c.run_piece-kept.ensures.usable usable) history represents in
           let (new, step, after) = c.run_piece-kept.ensures.step usable last stands in (
@@ -65,8 +65,8 @@ returns-clause-run g c =
       results,
       heard,
       omega (arith, count),
-      whole_front (KeptStepOver g.S.Store g.K.PieceResult.result_of) c.args.engine.now (map (spanned (lexemes_at c.args.script.now c.args.tokens.now)) c.args.pieces.now) results c.loop-i.engine
-          (subst (λ (pieces : List Span). StepPieces (KeptStepOver g.S.Store g.K.PieceResult.result_of) c.args.engine.now (map (spanned (lexemes_at c.args.script.now c.args.tokens.now)) pieces) results c.loop-i.engine) whole over),
+      whole_front g.K.PieceResult.is_step_over c.args.engine.now (map (spanned (lexemes_at c.args.script.now c.args.tokens.now)) c.args.pieces.now) results c.loop-i.engine
+          (subst (λ (pieces : List Span). StepPieces g.K.PieceResult.is_step_over c.args.engine.now (map (spanned (lexemes_at c.args.script.now c.args.tokens.now)) pieces) results c.loop-i.engine) whole over),
       λ usable history represents.
           let (last, run, stands) = ran usable history represents in (
             last,

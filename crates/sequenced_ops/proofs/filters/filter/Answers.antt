@@ -4,7 +4,7 @@ use Rattle.catalog_core.specs.Conditions.{meets}
 use Rattle.period_core.specs.declared.row.PeriodRow.{PeriodRow}
 use Rattle.sequenced_ops.specs.Operations.{Cond}
 use Rattle.sequenced_ops.proofs.Logic.{none_before, none_left, part_moved, part_same}
-use Rattle.sequenced_ops.proofs.Standing.{holds-push, holds-nil}
+use Rattle.sequenced_ops.proofs.TwoRows.{holds-push, holds-nil}
 use Rattle.sequenced_ops.proofs.Selections.{SelectionLeft, row_accepted, row_refused}
 use Rattle.sequenced_ops.proofs.filters.filter.Goals as goal
 

@@ -8,7 +8,7 @@ use Rattle.sequenced_ops.proofs.selection.select_meeting.Goals as goal
 
 pub loop-row-init : goal.loop-row-init
 loop-row-init c =
-    subst (λ (l : List PeriodRow). SelectedSoFar (meets_all c.args.conjuncts.now) c.args.columns.now l []) (sym c.new-selected.ensures.items)
+    subst (λ (l : List PeriodRow). SelectedSoFar (meets_all c.args.conjuncts.now) c.args.columns.now l []) (sym c.in_ok-selected.ensures.items)
     (selected_none (meets_all c.args.conjuncts.now) c.args.columns.now)
 
 pub loop-row-preserved : goal.loop-row-preserved

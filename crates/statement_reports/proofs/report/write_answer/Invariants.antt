@@ -6,7 +6,7 @@ use Rattle.statement_reports.specs.declared.outcome.Outcome.TheVariants as outco
 use Rattle.statement_reports.proofs.AppendFacts.{IsLeft, rows_text}
 use Rattle.statement_reports.proofs.report.write_answer.Given as goal
 
--- what is written, and what is still to come; the record begins as a row's
+-- the rows written, and those to come; the record begins as a row's
 abbrev pub invariant-loop-row : goal.invariant-loop-row
 invariant-loop-row g l =
     (IsLeft (append_known (g.W.Write.contents l.fn.out) l.fn.buffer) (append_known (g.W.Write.contents l.out) l.buffer)

@@ -10,7 +10,7 @@ use Rattle.version_store.specs.PendingRemovals.{HasExcept, is_pending, key_at}
 use Rattle.version_store.specs.Written.{written, written_version}
 use Rattle.version_store.proofs.Leaves.{adds, replaces, same_row}
 use Rattle.version_store.proofs.Places.{apart, one_fewer}
-use Rattle.version_store.proofs.Standing.{on_ok}
+use Rattle.version_store.proofs.AfterCalls.{on_ok}
 use Rattle.version_store.proofs.insertion.add_row.Goals as goal
 
 pub returns-then-remove-clause-made : goal.returns-then-remove-clause-made

@@ -18,7 +18,7 @@ use Rattle.version_tables.proofs.Steps.{nothing_then}
 use Rattle.version_store.specs.Changed.{added_at}
 use Rattle.version_store.specs.PendingRemovals.{HasExcept}
 use Rattle.version_store.proofs.Leaves.{all_adds, new_of}
-use Rattle.version_store.proofs.Standing.{on_ok}
+use Rattle.version_store.proofs.AfterCalls.{on_ok}
 use Rattle.version_store.proofs.Sweeps.{added_more, none_added}
 use Rattle.version_store.proofs.insertion.add_rows.Goals as goal
 

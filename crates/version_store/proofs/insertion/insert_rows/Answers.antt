@@ -1,7 +1,7 @@
 use Rattle.std.proofs.Common.{◌≡◌, rules, w64, to_z, of_z}
 use Rattle.std.proofs.lemmas.Result.{err_from_is_err_and}
 use Rattle.sqlite.specs.Held.{state}
-use Rattle.version_store.proofs.Standing.{caused_by}
+use Rattle.version_store.proofs.AfterCalls.{caused_by}
 use Rattle.version_store.proofs.insertion.insert_rows.Goals as goal
 
 pub returns-clause-made : goal.returns-clause-made

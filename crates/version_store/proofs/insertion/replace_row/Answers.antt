@@ -12,7 +12,7 @@ use Rattle.version_store.proofs.Causes.{caused_then, if_err, not_filtered}
 use Rattle.version_tables.proofs.Keeping.{leaves_then}
 use Rattle.version_tables.proofs.Steps.{nothing_then}
 use Rattle.version_store.proofs.Leaves.{same_moved, one_moved, none_moved}
-use Rattle.version_store.proofs.Standing.{caused_by, on_ok}
+use Rattle.version_store.proofs.AfterCalls.{caused_by, on_ok}
 use Rattle.version_store.proofs.insertion.replace_row.Goals as goal
 
 pub returns-in-0-clause-made : goal.returns-in-0-clause-made

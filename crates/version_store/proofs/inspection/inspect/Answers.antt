@@ -13,10 +13,10 @@ use Rattle.version_tables.specs.Rows.{AreNumbered, AreRising, InOrder, by_rowid}
 use Rattle.version_tables.specs.Tables.{HasStoreTables}
 use Rattle.sqlite.specs.State.{State}
 use Rattle.version_store.specs.Faults.{IsJudgement, IsUnread}
-use Rattle.version_store.specs.GoodStore.{IsGoodStore, NothingMore}
+use Rattle.version_store.specs.GoodStore.{IsGoodStore, NoExtraCondition}
 use Rattle.version_store.specs.declared.fault.OpenFault.{OpenFault}
 use Rattle.version_store.specs.declared.fault.OpenFault.TheVariants.{BadStore}
-use Rattle.version_store.proofs.Standing.{unread_by, unread_since}
+use Rattle.version_store.proofs.AfterCalls.{unread_by, unread_since}
 use Rattle.version_tables.specs.Represents.{HaveOwnRowids, meta_shown, rowid_shown, table_shown, version_shown}
 use Rattle.version_store.proofs.Keys.{keys_kept}
 use Rattle.version_store.proofs.Opens.{all_lawful, found_contents, judged_bad, judged_good}
@@ -52,7 +52,7 @@ returns-clause-good g c clean on has =
     found_contents old own.0 own.1 c.check_rows.result
     (judged_good old c.deref-4.result.now c.deref-5.result.now c.in_ok-versions.versions.items pm pt pv has keys c.check_rows.result c.check_rows.ensures.good)
 
--- what is read has the versions of whatever contents the database has
+-- the versions read are those of whatever contents the database has
 pub returns-clause-versions : goal.returns-clause-versions
 returns-clause-versions g c clean on =
     let old = (state g.S.Store c.args.connection.now).now in
@@ -159,7 +159,7 @@ returns-in_err-ids-clause-why g c clean on good own =
     rw p.1 (unread_since (state g.S.Store c.args.connection.now) (state g.S.Store c.meta_rows.new.connection) (state g.S.Store c.rowids.new.connection) _ c.in_ok-metas.ensures.reads.faults (unread_since (state g.S.Store c.meta_rows.new.connection) (state g.S.Store c.table_rows.new.connection) (state g.S.Store c.rowids.new.connection) _ c.in_ok-tables.ensures.reads.faults last))
 
 -- the rowids of a good store
-module _ (db : Database) (good : IsGoodStore NothingMore db) (own : HaveOwnRowids (db.trees 2)) (ids : List Row) (order : InOrder rowid_shown by_rowid (db.trees 2) ids) where
+module _ (db : Database) (good : IsGoodStore NoExtraCondition db) (own : HaveOwnRowids (db.trees 2)) (ids : List Row) (order : InOrder rowid_shown by_rowid (db.trees 2) ids) where
   rise : AreNumbered ids × AreRising ids
   rise = rowids_rise (db.trees 2) ids order own.0 own.1
 
@@ -188,10 +188,10 @@ returns-then-not-are_rising-clause-why g c clean on good own =
 pub returns-then-repeat_key-clause-why : goal.returns-then-repeat_key-clause-why
 returns-then-repeat_key-clause-why g c clean on good own = absurd (returns-then-repeat_key-clause-bad g c clean on good.tables_there refl good)
 
--- what is judged is found good
+-- a database that is judged and read is found good
 judged_read : (Bad : Type 0) {X : Type 0} (old new : State) (r : Result X OpenFault) → ¬ Bad → IfErr r (λ fault. fault ≡ BadStore → Bad) → IfErr r IsJudgement → IfErr r (IsUnread old new)
 judged_read Bad old new (Ok x) good bad named = tt
 judged_read Bad old new (Err fault) good bad named = elim named [ inl is ↦ absurd (good (bad is)) | inr memory ↦ inl memory ]
 
 pub returns-clause-why : goal.returns-clause-why
-returns-clause-why g c clean on good own = judged_read (¬ IsGoodStore NothingMore (state g.S.Store c.args.connection.now).now) (state g.S.Store c.args.connection.now) (state g.S.Store c.rowids.new.connection) c.check_rows.result (λ none. none good) (returns-clause-bad g c clean on good.tables_there) c.check_rows.ensures.named
+returns-clause-why g c clean on good own = judged_read (¬ IsGoodStore NoExtraCondition (state g.S.Store c.args.connection.now).now) (state g.S.Store c.args.connection.now) (state g.S.Store c.rowids.new.connection) c.check_rows.result (λ none. none good) (returns-clause-bad g c clean on good.tables_there) c.check_rows.ensures.named

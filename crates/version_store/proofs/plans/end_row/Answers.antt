@@ -2,7 +2,7 @@ use Rattle.std.proofs.Common.{◌≡◌, ◌||◌, refl, subst, sym, ap, ◌∙�
 use Rattle.sqlite.specs.Held.{state}
 use Rattle.std.proofs.lemmas.Result.{err_from_is_err_and}
 use Rattle.version_tables.specs.Healthy.{IsShort}
-use Rattle.version_store.proofs.Standing.{caused_by}
+use Rattle.version_store.proofs.AfterCalls.{caused_by}
 use Rattle.version_tables.proofs.Keeping.{leaves_same}
 use Rattle.version_store.specs.PendingRemovals.{is_pending}
 use Rattle.version_store.proofs.Leaves.{closes, notes, same_place}

@@ -17,7 +17,7 @@ use Rattle.version_store.specs.Changed.{planned}
 use Rattle.version_store.specs.PendingRemovals.{HasExcept}
 use Rattle.version_store.specs.Written.{Has}
 use Rattle.version_store.proofs.Leaves.{begins, settles}
-use Rattle.version_store.proofs.Standing.{on_ok}
+use Rattle.version_store.proofs.AfterCalls.{on_ok}
 use Rattle.version_store.proofs.plans.put_plan.Goals as goal
 
 pub returns-clause-made : goal.returns-clause-made

@@ -1,6 +1,6 @@
 use Rattle.std.proofs.lemmas.Result.{err_from_is_err_and}
 use Rattle.sqlite.specs.Held.{state}
-use Rattle.version_store.proofs.Standing.{caused_by}
+use Rattle.version_store.proofs.AfterCalls.{caused_by}
 use Rattle.version_store.proofs.plans.remove_row.Goals as goal
 
 pub returns-in_err-remove_version-clause-why : goal.returns-in_err-remove_version-clause-why

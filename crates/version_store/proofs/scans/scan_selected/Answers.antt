@@ -6,7 +6,7 @@ use Rattle.sqlite.specs.State.{HasCleanDisk}
 use Rattle.version_tables.specs.Giving.{IsAfterQuery}
 use Rattle.version_store.specs.Scans.{chosen_of}
 use Rattle.version_store.proofs.Scanned.{all_visits, last_readable, none_yet, one_visited, some_visits}
-use Rattle.version_store.proofs.Standing.{failed_by}
+use Rattle.version_store.proofs.AfterCalls.{failed_by}
 use Rattle.version_store.specs.StoreState.{IsFailure}
 use Rattle.version_store.specs.Units.{in_microseconds}
 use Rattle.version_store.proofs.scans.scan_selected.Goals as goal

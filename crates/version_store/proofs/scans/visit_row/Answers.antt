@@ -2,7 +2,7 @@ use Rattle.std.proofs.Common.{Err, IfErr, None, Ok, OnOk, Option, Result, Some, 
 use Rattle.period_core.specs.declared.refusal.Refusal.{Refusal}
 use Rattle.version_store.specs.Scans.{AnswersRefusal}
 use Rattle.version_store.proofs.Found.{same_row}
-use Rattle.version_store.proofs.Standing.{on_ok}
+use Rattle.version_store.proofs.AfterCalls.{on_ok}
 use Rattle.version_store.proofs.scans.visit_row.Goals as goal
 
 answers : {X : Type 0} (answered : Option Refusal → Type 0) (r : Result X Refusal) → OnOk r (answered None) → IfErr r (λ refusal. answered (Some refusal)) → AnswersRefusal answered r

@@ -1,7 +1,10 @@
-use Rattle.std.proofs.Common.{[]}
+use Rattle.std.proofs.Common.{◌∙◌, [], ap}
 use Rattle.sqlite.specs.Held.{state}
-use Rattle.version_tables.specs.Making.{HasDefinitions, HasMeta}
+use Rattle.version_tables.specs.Making.{HasDefinitions, HasMeta, with_meta}
 use Rattle.version_tables.proofs.Steps.{one_statement, turned}
+use Rattle.version_tables.specs.Texts.{table_text}
+use Rattle.version_tables.proofs.Makes.{definitions_fail}
+use Rattle.version_tables.proofs.Refusals.{why_inside}
 use Rattle.version_tables.proofs.Creates.{makes_definitions}
 use Rattle.version_tables.proofs.creation.create_definitions.Goals as goal
 
@@ -13,3 +16,9 @@ returns-clause-made g c clean begun =
 
 pub returns-clause-inside : goal.returns-clause-inside
 returns-clause-inside g c = one_statement g.S.Store _ _ _ _ c.execute.result c.execute.ensures.ended c.execute.ensures.runs c.execute.ensures.survives
+
+pub returns-clause-why : goal.returns-clause-why
+returns-clause-why g c clean begun base empty was =
+    let old = state g.S.Store c.args.transaction.now.conn.now in
+    let new = state g.S.Store c.execute.new.self.conn.now in
+    why_inside table_text [] old new c.execute.result (c.execute.ensures.runs clean begun) (definitions_fail old new (was.schema_is ∙ ap with_meta empty))

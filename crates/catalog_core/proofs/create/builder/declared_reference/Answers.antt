@@ -3,7 +3,7 @@ use Rattle.std.specs.Prelude.{is_none}
 use Rattle.std.specs.Option.{option_and_then}
 use Rattle.std.proofs.lemmas.Bool.{false≢true}
 use Rattle.catalog_core.proofs.lemmas.create.Built.{counts_from_one, mapped_lengths, own_all_within, reference_kept, some_there}
-use Rattle.catalog_core.proofs.lemmas.change.RowFacts.{table_named}
+use Rattle.catalog_core.proofs.lemmas.table.Named.{table_named}
 use Rattle.catalog_core.proofs.lemmas.judged.Sound.{fails_there}
 use Rattle.catalog_core.specs.create.Creation.{some_parent_match}
 use Rattle.catalog_core.specs.create.Definition.{own_place}

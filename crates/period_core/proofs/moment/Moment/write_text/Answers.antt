@@ -15,7 +15,7 @@ cut c =
       | else-count_before-eq0 w ↦ cut-other c.args.self _ (k % 1000000) is w.if-count_before-eq0.false w.length-is
     ]
 
--- what is copied is the text that is written
+-- the copied bytes are the text that is written
 copied : (c : goal.After-copy_from_slice) → c.copy_from_slice.new.self ≡ moment_text c.args.self
 copied c =
     let len = c.if-count_before-eq0.length in

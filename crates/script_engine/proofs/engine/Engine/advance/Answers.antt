@@ -22,3 +22,10 @@ returns-clause-over g c =
     (not_earlier c.args.self.now.catalog.tables c.args.self.now.clock c.args.moment late)
     (ap (λ k. k.tables) c.at.ensures.catalog, subst (λ (m : ℤ). c.at.new.self.clock ≡ m) c.moment.ensures.value c.in_ok-at.ensures.advanced)
     c.at.ensures.usable
+
+-- ---- 62 is due to a fault
+
+pub returns-in_err-at-clause-why : goal.returns-in_err-at-clause-why
+returns-in_err-at-clause-why g c =
+    let p = err_from_is_err_and c.from_residual.result c.from_residual.ensures.1 in
+    rw (p.1, p.2) (λ usable history kept room told. c.in_err-at.ensures.why usable kept.contents kept.stored room.healthy told)

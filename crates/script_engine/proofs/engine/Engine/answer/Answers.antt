@@ -6,7 +6,7 @@ use Rattle.sql_statements.specs.Trees.{Statement}
 use Rattle.sql_statements.specs.Trees as statement
 use Rattle.catalog_core.specs.RefusalConditions.{Holds}
 use Rattle.catalog_core.specs.query.Queries as resolved
-use Rattle.catalog_core.specs.query.Resolving.{ResolvesQuery, query_conditions}
+use Rattle.statement_resolution.specs.query.Resolving.{ResolvesQuery, query_conditions}
 use Rattle.catalog_core.specs.declared.table.TableDef.{TableDef}
 use Rattle.catalog_core.specs.declared.table.catalog.Catalog.{Catalog}
 use Rattle.period_keys.specs.Current.{rows_by_key}
@@ -27,8 +27,8 @@ returns-clause-step g c usable history kept =
     let query = resolved.plain_query c.in_ok-query.query in
     let old : EngineState g.row.S.Denot = c.args.self.now in
     let catalog : c.catalog.result.now ≡ old.catalog = c.catalog.ensures ∙ ap (λ (e : EngineState g.row.S.Denot). e.catalog) c.self.view_is in
-    let new : EngineState g.row.S.Denot = engine_of c.self.inside.store (map rows_by_key c.self.inside.tables.items) c.answer_of.new.ended.items in
-    let same : new ≡ old = ap (engine_of c.self.inside.store (map rows_by_key c.self.inside.tables.items)) c.answer_of.ensures.same ∙ c.self.view_is in
+    let new : EngineState g.row.S.Denot = engine_of c.self.inside.store (map rows_by_key c.self.inside.tables.items) c.answer_query.new.ended.items in
+    let same : new ≡ old = ap (engine_of c.self.inside.store (map rows_by_key c.self.inside.tables.items)) c.answer_query.ensures.same ∙ c.self.view_is in
     let rows =
     handed_rows g.S.Store history old kept (map rows_by_key c.as_slice-tables.result.now) c.self.inside.ended.items
     (ap (map rows_by_key) c.as_slice-tables.ensures.value ∙ ap (λ (e : EngineState g.row.S.Denot). e.tables) c.self.view_is)
@@ -46,8 +46,8 @@ returns-in_err-answer-clause-step g c usable history kept =
     let s : Statement = statement.sequenced asked in
     let old : EngineState g.row.S.Denot = c.args.self.now in
     let catalog : c.catalog.result.now ≡ old.catalog = c.catalog.ensures ∙ ap (λ (e : EngineState g.row.S.Denot). e.catalog) c.self.view_is in
-    let new : EngineState g.row.S.Denot = engine_of c.self.inside.store (map rows_by_key c.self.inside.tables.items) c.answer_of.new.ended.items in
-    let same : new ≡ old = ap (engine_of c.self.inside.store (map rows_by_key c.self.inside.tables.items)) c.answer_of.ensures.same ∙ c.self.view_is in
+    let new : EngineState g.row.S.Denot = engine_of c.self.inside.store (map rows_by_key c.self.inside.tables.items) c.answer_query.new.ended.items in
+    let same : new ≡ old = ap (engine_of c.self.inside.store (map rows_by_key c.self.inside.tables.items)) c.answer_query.ensures.same ∙ c.self.view_is in
     failed_answer g.S.Store history old asked kept new c.in_err-answer.field-0.0
     (subst (λ (k : Catalog). NoneApplies (Holds (query_conditions k.tables s))) catalog c.in_ok-query.ensures.sound)
     (has_the_same g.S.Store history old kept new same) c.in_err-answer.ensures.named)
@@ -66,7 +66,7 @@ returns-in_err-answer-clause-queries g c usable history kept =
     let s : Statement = statement.sequenced asked in
     let query = resolved.plain_query c.in_ok-query.query in
     let old : EngineState g.row.S.Denot = c.args.self.now in
-    let new : EngineState g.row.S.Denot = engine_of c.self.inside.store (map rows_by_key c.self.inside.tables.items) c.answer_of.new.ended.items in
+    let new : EngineState g.row.S.Denot = engine_of c.self.inside.store (map rows_by_key c.self.inside.tables.items) c.answer_query.new.ended.items in
     let rows =
     handed_rows g.S.Store history old kept (map rows_by_key c.as_slice-tables.result.now) c.self.inside.ended.items
     (ap (map rows_by_key) c.as_slice-tables.ensures.value ∙ ap (λ (e : EngineState g.row.S.Denot). e.tables) c.self.view_is)
@@ -80,8 +80,8 @@ returns-clause-over g c =
     let s : Statement = statement.sequenced (plain_query c.args.query.now) in
     let old : EngineState g.row.S.Denot = c.args.self.now in
     let catalog : c.catalog.result.now ≡ old.catalog = c.catalog.ensures ∙ ap (λ (e : EngineState g.row.S.Denot). e.catalog) c.self.view_is in
-    let new : EngineState g.row.S.Denot = engine_of c.self.inside.store (map rows_by_key c.self.inside.tables.items) c.answer_of.new.ended.items in
-    let same : new ≡ old = ap (engine_of c.self.inside.store (map rows_by_key c.self.inside.tables.items)) c.answer_of.ensures.same ∙ c.self.view_is in
+    let new : EngineState g.row.S.Denot = engine_of c.self.inside.store (map rows_by_key c.self.inside.tables.items) c.answer_query.new.ended.items in
+    let same : new ≡ old = ap (engine_of c.self.inside.store (map rows_by_key c.self.inside.tables.items)) c.answer_query.ensures.same ∙ c.self.view_is in
     asked_over g.S.Store old s new (Answered c.in_ok-answer.answer) same
     (subst (λ (k : Catalog). NoneApplies (Holds (query_conditions k.tables s))) catalog c.in_ok-query.ensures.sound) (refl, refl)
 
@@ -99,8 +99,8 @@ returns-in_err-answer-clause-over g c =
     rw (p.1, p.2) (let s : Statement = statement.sequenced (plain_query c.args.query.now) in
     let old : EngineState g.row.S.Denot = c.args.self.now in
     let catalog : c.catalog.result.now ≡ old.catalog = c.catalog.ensures ∙ ap (λ (e : EngineState g.row.S.Denot). e.catalog) c.self.view_is in
-    let new : EngineState g.row.S.Denot = engine_of c.self.inside.store (map rows_by_key c.self.inside.tables.items) c.answer_of.new.ended.items in
-    let same : new ≡ old = ap (engine_of c.self.inside.store (map rows_by_key c.self.inside.tables.items)) c.answer_of.ensures.same ∙ c.self.view_is in
+    let new : EngineState g.row.S.Denot = engine_of c.self.inside.store (map rows_by_key c.self.inside.tables.items) c.answer_query.new.ended.items in
+    let same : new ≡ old = ap (engine_of c.self.inside.store (map rows_by_key c.self.inside.tables.items)) c.answer_query.ensures.same ∙ c.self.view_is in
     untouched_over g.S.Store old s new c.in_err-answer.field-0.0 same
     (failed_over old.catalog.tables old.clock s c.in_err-answer.field-0.0
     (subst (λ (k : Catalog). NoneApplies (Holds (query_conditions k.tables s))) catalog c.in_ok-query.ensures.sound)

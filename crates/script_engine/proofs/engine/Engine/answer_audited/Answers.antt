@@ -6,48 +6,54 @@ use Rattle.sql_statements.specs.Trees.{Statement}
 use Rattle.sql_statements.specs.Trees as statement
 use Rattle.catalog_core.specs.RefusalConditions.{Holds}
 use Rattle.catalog_core.specs.query.Queries as resolved
-use Rattle.catalog_core.specs.query.Resolving.{ResolvesQuery, query_conditions}
+use Rattle.statement_resolution.specs.query.Resolving.{ResolvesQuery, query_conditions}
 use Rattle.catalog_core.specs.declared.table.TableDef.{TableDef}
 use Rattle.catalog_core.specs.declared.table.catalog.Catalog.{Catalog}
 use Rattle.period_keys.specs.Current.{rows_by_key}
-use Rattle.script_engine.specs.engine.Answering.{IsOfCatalog}
+use Rattle.version_store.specs.StoreState.{SparesOthers}
+use Rattle.version_store.proofs.Beside.{spares_same}
+use Rattle.history_model.specs.Histories.{catalog_of}
 use Rattle.script_engine.specs.engine.Audits.{AuditedStepsTo}
-use Rattle.script_engine.specs.engine.EngineState.{EngineState}
+use Rattle.script_engine.specs.engine.EngineState.{EngineState, engine_of}
 use Rattle.script_engine.specs.engine.Over.{StepOver}
 use Rattle.script_engine.specs.engine.Runs.{MayRefuseQuery}
 use Rattle.statement_reports.specs.declared.entry.Entry.{Entry}
 use Rattle.statement_reports.specs.declared.outcome.Outcome.TheVariants.{Answer as Answered}
-use Rattle.script_engine.proofs.Answered.{answered_step, failed_answer}
+use Rattle.script_engine.proofs.Answered.{answered_step, failed_answer, unanswered_step}
 use Rattle.script_engine.proofs.Audited.{answer_entry, refused_entry}
 use Rattle.script_engine.proofs.Fits.{of_catalog}
-use Rattle.script_engine.proofs.Handed.{handed_rows, has_still}
+use Rattle.script_engine.proofs.Handed.{handed_catalog, handed_rows, has_the_same}
 use Rattle.script_engine.proofs.Refused.{failed_query}
 use Rattle.script_engine.proofs.OverFacts.{asked_over, untouched_over}
 use Rattle.script_engine.proofs.SameInMemory.{failed_over}
 use Rattle.script_engine.proofs.Steps.{tables_of}
 use Rattle.script_engine.proofs.engine.Engine.answer_audited.Goals as goal
 
-pub returns-in-Ok-answered-clause-step : goal.returns-in-Ok-answered-clause-step
-returns-in-Ok-answered-clause-step g c usable history kept =
+pub returns-in-Ok-answer_query-clause-step : goal.returns-in-Ok-answer_query-clause-step
+returns-in-Ok-answer_query-clause-step g c usable history kept =
     let asked = plain_query c.args.query.now in
     let s : Statement = statement.sequenced asked in
     let query = resolved.plain_query c.in-Ok.query in
-    let answer = c.in-Ok-answered.answer in
-    let seen = c.in-Ok-answered.seen in
+    let answer = c.in-Ok-answer_query.answer in
     let old : EngineState g.row.S.Denot = c.args.self.now in
     let catalog : c.catalog.result.now ≡ old.catalog = c.catalog.ensures ∙ ap (λ (e : EngineState g.row.S.Denot). e.catalog) c.self.view_is in
-    let rows =
-    handed_rows g.S.Store history old kept (map rows_by_key c.as_slice-tables.result.now) c.as_slice-ended.result.now
-    (ap (map rows_by_key) c.as_slice-tables.ensures.value ∙ ap (λ (e : EngineState g.row.S.Denot). e.tables) c.self.view_is)
-    (c.as_slice-ended.ensures.value ∙ ap (λ (e : EngineState g.row.S.Denot). e.ended) c.self.view_is) in
+    let new : EngineState g.row.S.Denot = engine_of c.self.inside.store (map rows_by_key c.self.inside.tables.items) c.answer_query.new.ended.items in
+    let same : new ≡ old = ap (engine_of c.self.inside.store (map rows_by_key c.self.inside.tables.items)) c.answer_query.ensures.same ∙ c.self.view_is in
+    let tables : map rows_by_key c.as_slice-tables.result.now ≡ old.tables = ap (map rows_by_key) c.as_slice-tables.ensures.value ∙ ap (λ (e : EngineState g.row.S.Denot). e.tables) c.self.view_is in
+    let ended : c.self.inside.ended.items ≡ old.ended = ap (λ (e : EngineState g.row.S.Denot). e.ended) c.self.view_is in
+    let rows = handed_rows g.S.Store history old kept (map rows_by_key c.as_slice-tables.result.now) c.self.inside.ended.items tables ended in
+    let known = handed_catalog g.S.Store history old kept c.catalog-catalog.result.now (c.catalog-catalog.ensures ∙ ap (λ (e : EngineState g.row.S.Denot). e.catalog) c.self.view_is) in
+    let right = c.in-Ok-answer_query.ensures.right history known rows in
     let found : ResolvesQuery old.catalog.tables s query = subst (λ (k : Catalog). ResolvesQuery k.tables s query) catalog c.in-Ok.ensures.resolved in
-    let right = c.in-Ok-answered.ensures.right history rows in
-    answer_entry g.S.Store history s old query answer seen c.audit_of-audit.result
-    (subst (λ (defs : List TableDef). ResolvesQuery defs s query) (tables_of g.S.Store history old kept) found)
-    right (c.in-Ok-answered.ensures.seen history rows) c.audit_of-audit.ensures.verdict c.audit_of-audit.ensures.memory
-    (answered_step g.S.Store history old asked kept old query answer
+    let its : ResolvesQuery (catalog_of history) s query = subst (λ (defs : List TableDef). ResolvesQuery defs s query) (tables_of g.S.Store history old kept) found in
+    let audited =
+    handed_rows g.S.Store history old kept (map rows_by_key c.as_slice-tables.result.now) c.as_slice.result.now tables
+    (c.as_slice.ensures.value ∙ c.answer_query.ensures.same ∙ ended) in
+    answer_entry g.S.Store history s new query answer c.audit_of-audit.result its
+    (c.audit_of-audit.ensures.confirms history audited (of_catalog (catalog_of history) asked query its) right)
+    (answered_step g.S.Store history old asked kept new query answer
     (subst (λ (k : Catalog). NoneApplies (Holds (query_conditions k.tables s))) catalog c.in-Ok.ensures.sound)
-    found (has_still g.S.Store history old kept) c.in-Ok-answered.ensures.columns right)
+    found (has_the_same g.S.Store history old kept new same) c.in-Ok-answer_query.ensures.columns right)
 
 pub returns-clause-step : goal.returns-clause-step
 returns-clause-step g c usable history kept =
@@ -55,10 +61,13 @@ returns-clause-step g c usable history kept =
     let s : Statement = statement.sequenced asked in
     let old : EngineState g.row.S.Denot = c.args.self.now in
     let catalog : c.catalog.result.now ≡ old.catalog = c.catalog.ensures ∙ ap (λ (e : EngineState g.row.S.Denot). e.catalog) c.self.view_is in
-    subst (λ (entry : Entry). AuditedStepsTo g.S.Store history s entry old) (sym c.unaudited-in-Err-answered.ensures)
-    (refused_entry g.S.Store history s old c.in-Err-answered.refusal
-    (failed_answer g.S.Store history old asked kept old c.in-Err-answered.refusal
-    (subst (λ (k : Catalog). NoneApplies (Holds (query_conditions k.tables s))) catalog c.in-Ok.ensures.sound) (has_still g.S.Store history old kept) c.in-Err-answered.ensures.named))
+    let new : EngineState g.row.S.Denot = engine_of c.self.inside.store (map rows_by_key c.self.inside.tables.items) c.answer_query.new.ended.items in
+    let same : new ≡ old = ap (engine_of c.self.inside.store (map rows_by_key c.self.inside.tables.items)) c.answer_query.ensures.same ∙ c.self.view_is in
+    subst (λ (entry : Entry). AuditedStepsTo g.S.Store history s entry new) (sym c.unaudited-in-Err-answer_query.ensures)
+    (refused_entry g.S.Store history s new c.in-Err-answer_query.refusal
+    (failed_answer g.S.Store history old asked kept new c.in-Err-answer_query.refusal
+    (subst (λ (k : Catalog). NoneApplies (Holds (query_conditions k.tables s))) catalog c.in-Ok.ensures.sound)
+    (has_the_same g.S.Store history old kept new same) c.in-Err-answer_query.ensures.named))
 
 pub returns-in-Err-clause-queries : goal.returns-in-Err-clause-queries
 returns-in-Err-clause-queries g c usable history kept =
@@ -73,21 +82,24 @@ returns-clause-queries g c usable history kept =
     let s : Statement = statement.sequenced asked in
     let query = resolved.plain_query c.in-Ok.query in
     let old : EngineState g.row.S.Denot = c.args.self.now in
-    let catalog : c.catalog.result.now ≡ old.catalog = c.catalog.ensures ∙ ap (λ (e : EngineState g.row.S.Denot). e.catalog) c.self.view_is in
+    let new : EngineState g.row.S.Denot = engine_of c.self.inside.store (map rows_by_key c.self.inside.tables.items) c.answer_query.new.ended.items in
     let rows =
-    handed_rows g.S.Store history old kept (map rows_by_key c.as_slice-tables.result.now) c.as_slice-ended.result.now
+    handed_rows g.S.Store history old kept (map rows_by_key c.as_slice-tables.result.now) c.self.inside.ended.items
     (ap (map rows_by_key) c.as_slice-tables.ensures.value ∙ ap (λ (e : EngineState g.row.S.Denot). e.tables) c.self.view_is)
-    (c.as_slice-ended.ensures.value ∙ ap (λ (e : EngineState g.row.S.Denot). e.ended) c.self.view_is) in
-    let of = subst (λ (defs : List TableDef). IsOfCatalog defs query) (tables_of g.S.Store history old kept) (of_catalog old.catalog.tables asked query (subst (λ (k : Catalog). ResolvesQuery k.tables s query) catalog c.in-Ok.ensures.resolved)) in
-    subst (λ (entry : Entry). IfErr entry.result (MayRefuseQuery g.S.Store old old s)) (sym c.unaudited-in-Err-answered.ensures)
-    (failed_query g.S.Store old old s c.in-Err-answered.refusal (inl (c.in-Err-answered.ensures.why history rows of)))
+    (ap (λ (e : EngineState g.row.S.Denot). e.ended) c.self.view_is) in
+    let known = handed_catalog g.S.Store history old kept c.catalog-catalog.result.now (c.catalog-catalog.ensures ∙ ap (λ (e : EngineState g.row.S.Denot). e.catalog) c.self.view_is) in
+    let of = of_catalog c.catalog-catalog.result.now.tables asked query (subst (λ (k : Catalog). ResolvesQuery k.tables s query) (c.catalog.ensures ∙ sym c.catalog-catalog.ensures) c.in-Ok.ensures.resolved) in
+    subst (λ (entry : Entry). IfErr entry.result (MayRefuseQuery g.S.Store old new s)) (sym c.unaudited-in-Err-answer_query.ensures)
+    (failed_query g.S.Store old new s c.in-Err-answer_query.refusal (inl (c.in-Err-answer_query.ensures.why history known rows of)))
 
-pub returns-in-Ok-answered-clause-over : goal.returns-in-Ok-answered-clause-over
-returns-in-Ok-answered-clause-over g c =
+pub returns-in-Ok-answer_query-clause-over : goal.returns-in-Ok-answer_query-clause-over
+returns-in-Ok-answer_query-clause-over g c =
     let s : Statement = statement.sequenced (plain_query c.args.query.now) in
     let old : EngineState g.row.S.Denot = c.args.self.now in
     let catalog : c.catalog.result.now ≡ old.catalog = c.catalog.ensures ∙ ap (λ (e : EngineState g.row.S.Denot). e.catalog) c.self.view_is in
-    asked_over g.S.Store old s old (Answered c.in-Ok-answered.answer) refl
+    let new : EngineState g.row.S.Denot = engine_of c.self.inside.store (map rows_by_key c.self.inside.tables.items) c.answer_query.new.ended.items in
+    let same : new ≡ old = ap (engine_of c.self.inside.store (map rows_by_key c.self.inside.tables.items)) c.answer_query.ensures.same ∙ c.self.view_is in
+    asked_over g.S.Store old s new (Answered c.in-Ok-answer_query.answer) same
     (subst (λ (k : Catalog). NoneApplies (Holds (query_conditions k.tables s))) catalog c.in-Ok.ensures.sound) (refl, refl)
 
 pub returns-in-Err-clause-over : goal.returns-in-Err-clause-over
@@ -104,8 +116,34 @@ returns-clause-over g c =
     let s : Statement = statement.sequenced (plain_query c.args.query.now) in
     let old : EngineState g.row.S.Denot = c.args.self.now in
     let catalog : c.catalog.result.now ≡ old.catalog = c.catalog.ensures ∙ ap (λ (e : EngineState g.row.S.Denot). e.catalog) c.self.view_is in
-    subst (λ (entry : Entry). StepOver g.S.Store old s entry.result old) (sym c.unaudited-in-Err-answered.ensures)
-    (untouched_over g.S.Store old s old c.in-Err-answered.refusal refl
-    (failed_over old.catalog.tables old.clock s c.in-Err-answered.refusal
+    let new : EngineState g.row.S.Denot = engine_of c.self.inside.store (map rows_by_key c.self.inside.tables.items) c.answer_query.new.ended.items in
+    let same : new ≡ old = ap (engine_of c.self.inside.store (map rows_by_key c.self.inside.tables.items)) c.answer_query.ensures.same ∙ c.self.view_is in
+    subst (λ (entry : Entry). StepOver g.S.Store old s entry.result new) (sym c.unaudited-in-Err-answer_query.ensures)
+    (untouched_over g.S.Store old s new c.in-Err-answer_query.refusal same
+    (failed_over old.catalog.tables old.clock s c.in-Err-answer_query.refusal
     (subst (λ (k : Catalog). NoneApplies (Holds (query_conditions k.tables s))) catalog c.in-Ok.ensures.sound)
-    c.in-Err-answered.ensures.named))
+    c.in-Err-answer_query.ensures.named))
+
+pub returns-in-Err-clause-step : goal.returns-in-Err-clause-step
+returns-in-Err-clause-step g c usable history kept =
+    let asked = plain_query c.args.query.now in
+    let s : Statement = statement.sequenced asked in
+    let old : EngineState g.row.S.Denot = c.args.self.now in
+    let same : c.catalog.result.now.tables ≡ old.catalog.tables = ap (λ (k : Catalog). k.tables) c.catalog.ensures ∙ ap (λ s. s.catalog.tables) c.self.view_is in
+    subst (λ (entry : Entry). AuditedStepsTo g.S.Store history s entry old) (sym c.unaudited.ensures)
+    (refused_entry g.S.Store history s old c.in-Err.refusal
+    (unanswered_step g.S.Store history old asked kept c.in-Err.refusal
+    (subst (λ (tables : List TableDef). MayAnswer (Holds (query_conditions tables s)) c.in-Err.refusal) same c.in-Err.ensures.refused)))
+
+pub returns-in-Err-clause-others : goal.returns-in-Err-clause-others
+returns-in-Err-clause-others g c = spares_same g.S.Store c.args.self.now.connection c.args.self.now.connection (λ usable. refl)
+
+pub returns-in-Ok-answer_query-clause-others : goal.returns-in-Ok-answer_query-clause-others
+returns-in-Ok-answer_query-clause-others g c =
+    subst (λ s. SparesOthers g.S.Store s.connection c.self.inside.store.connection) c.self.view_is
+    (spares_same g.S.Store c.self.inside.store.connection c.self.inside.store.connection (λ usable. refl))
+
+pub returns-clause-others : goal.returns-clause-others
+returns-clause-others g c =
+    subst (λ s. SparesOthers g.S.Store s.connection c.self.inside.store.connection) c.self.view_is
+    (spares_same g.S.Store c.self.inside.store.connection c.self.inside.store.connection (λ usable. refl))

@@ -1,4 +1,4 @@
-use Rattle.std.proofs.Common.{◌≤ℤ◌, ◌<ℤ◌, ap, map, refl, rules, subst, sym}
+use Rattle.std.proofs.Common.{◌≤ℤ◌, ◌<ℤ◌, ◌∙◌, ap, length, map, refl, rules, subst, sym}
 use Rattle.period_core.specs.Moments.{forever}
 use Rattle.period_keys.specs.Current.{rows_by_key}
 use Rattle.script_engine.specs.engine.EngineState.{engine_of}
@@ -48,6 +48,7 @@ pub invariant_of-self : goal.invariant_of-self
 invariant_of-self g c = (
   subst (λ (k : Catalog). FollowCatalog k.tables c.self.inside.tables.items) (sym c.advance.ensures.catalog) c.self.invariant.0,
   ended_later c.advance.result c.self.inside.store.clock c.advance.new.self.clock c.args.moment c.self.inside.ended.items c.advance.ensures.advanced c.advance.ensures.clock (search rules) c.self.invariant.1,
+  c.self.invariant.2 ∙ ap (λ (k : Catalog). length k.tables) (sym c.advance.ensures.catalog),
 )
 
 pub returns-in-Some-2-clause-kept : goal.returns-in-Some-2-clause-kept

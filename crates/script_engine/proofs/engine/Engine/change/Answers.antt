@@ -1,8 +1,8 @@
 use Rattle.std.proofs.lemmas.Result.{IfErr-at_err, err_from_is_err_and}
-use Rattle.std.proofs.Common.{◌≡◌, ◌∙◌, List, Ok, Some, ap, inl, inr, map, refl, subst, subst₂, sym}
+use Rattle.std.proofs.Common.{◌≡◌, ◌∙◌, ℕ, List, Ok, Some, ap, inl, inr, length, map, refl, subst, subst₂, sym}
 use Rattle.period_core.specs.Leasts.{MayAnswer}
 use Rattle.catalog_core.specs.RefusalConditions.{Holds}
-use Rattle.catalog_core.specs.change.Resolution.{change_conditions}
+use Rattle.statement_resolution.specs.change.Resolution.{change_conditions}
 use Rattle.catalog_core.specs.table.TableWords.{table_of}
 use Rattle.catalog_core.specs.declared.table.TableDef.{TableDef}
 use Rattle.catalog_core.specs.declared.table.catalog.Catalog.{Catalog}
@@ -26,6 +26,15 @@ use Rattle.script_engine.proofs.InMemory.{current-kept}
 use Rattle.script_engine.proofs.ChangeRefusals.{constrained, planned_sound, unplanned, unresolved}
 use Rattle.script_engine.proofs.OverFacts.{accepted_over, change_follows, refused_over, untouched_over}
 use Rattle.script_engine.proofs.SameInMemory.{failed_over, rows_memory}
+use Rattle.sqlite.specs.Effect.{Database}
+use Rattle.sqlite.specs.Held.{state}
+use Rattle.statement_resolution.specs.change.Resolution.{ResolvesChange}
+use Rattle.version_tables.specs.Healthy.{IsHealthy}
+use Rattle.version_store.proofs.Keys.{keys_of}
+use Rattle.script_engine.proofs.CanMake.{can_make, counted_added}
+use Rattle.script_engine.proofs.OnFault.{changed_otherwise, not_constraint, not_empty, not_memory}
+use Rattle.script_engine.proofs.Refused.{by_fault}
+use Rattle.script_engine.proofs.Steps.{tables_of}
 use Rattle.script_engine.proofs.engine.Engine.change.Goals as goal
 
 pub returns-in_err-change-clause-step : goal.returns-in_err-change-clause-step
@@ -108,7 +117,7 @@ returns-clause-step g c usable history kept s is =
     (subst₂ (λ (k : Catalog) (ts : List RowsByKey). HoldCurrent k.tables (last_state history) ts) (sym judged) (sym tables) (hold_before g.S.Store history old s known.form kept))))
     (c.in_ok-apply.ensures.distinct usable kept.contents kept.stored)
     (c.in_ok-apply.ensures.changes usable kept.contents kept.stored).0
-    c.in_ok-apply.ensures.made c.in_ok-apply.ensures.closed)
+    c.in_ok-apply.ensures.made c.in_ok-apply.ensures.appended)
 
 pub returns-in_err-apply-clause-step : goal.returns-in_err-apply-clause-step
 returns-in_err-apply-clause-step g c usable history kept s is =
@@ -125,7 +134,7 @@ returns-in_err-apply-clause-step g c usable history kept s is =
     (record {
       stored = (c.in_err-apply.ensures.changes usable kept.contents kept.stored).1;
       current = current-kept kept.contents change.table old.tables new.tables c.in_err-apply.ensures.none kept.current;
-      ended = subst (HaveEnded kept.contents) (sym c.in_err-apply.ensures.open) kept.ended;
+      ended = subst (HaveEnded kept.contents) (sym c.in_err-apply.ensures.unchanged) kept.ended;
     })
     c.in_err-apply.ensures.named)
 
@@ -135,7 +144,7 @@ returns-in_err-apply-clause-kept g c =
     λ usable contents has. rw p.1 (record {
       stored = (c.in_err-apply.ensures.changes usable contents has.stored).1;
       current = current-kept contents c.in_ok-change.change.table c.args.self.now.tables c.apply.new.self.tables c.in_err-apply.ensures.none has.current;
-      ended = subst (HaveEnded contents) (sym c.in_err-apply.ensures.open) has.ended;
+      ended = subst (HaveEnded contents) (sym c.in_err-apply.ensures.unchanged) has.ended;
     })
 
 pub returns-in_err-change-clause-over : goal.returns-in_err-change-clause-over
@@ -176,7 +185,7 @@ returns-in_err-apply-clause-over g c =
     let of = c.in_ok-made.ensures.plan in
     refused_over g.S.Store old s new c.in_err-apply.field-0.0
     (failed_over old.catalog.tables old.clock s c.in_err-apply.field-0.0 (planned_sound old.catalog.tables old.clock s known.form change.action known.sound known.empty of.listed plan of.plans) c.in_err-apply.ensures.named)
-    (rows_memory old new change.table c.apply.ensures.catalog c.apply.ensures.clock c.in_err-apply.ensures.none c.in_err-apply.ensures.open)
+    (rows_memory old new change.table c.apply.ensures.catalog c.apply.ensures.clock c.in_err-apply.ensures.none c.in_err-apply.ensures.unchanged)
     c.in_err-apply.ensures.none_stored c.apply.ensures.usable)
 
 pub returns-clause-over : goal.returns-clause-over
@@ -190,3 +199,60 @@ returns-clause-over g c = λ s is.
     accepted_over g.S.Store old s new c.done.result (planned_sound old.catalog.tables old.clock s known.form change.action known.sound known.empty of.listed plan of.plans)
     (change_follows old new s known.form (ap (λ (k : Catalog). k.tables) c.apply.ensures.catalog, c.apply.ensures.clock))
     c.apply.ensures.usable
+
+-- ---- 62 is due to a fault
+
+pub apply-requires-clause-there : goal.apply-requires-clause-there
+apply-requires-clause-there g c =
+    let old : EngineState g.row.S.Denot = c.args.self.now in
+    let change = c.in_ok-change.change in
+    let (s, is) = c.requires in
+    resolved_table old.catalog.tables s change (subst (IsResolved old.catalog.tables s c.args.word) c.in_ok-change.was is).change
+
+pub returns-in_err-change-clause-why : goal.returns-in_err-change-clause-why
+returns-in_err-change-clause-why g c =
+    let p = err_from_is_err_and c.from_residual.result c.from_residual.ensures.1 in
+    rw (p.1, p.2) (λ s is usable history kept room told.
+    let old : EngineState g.row.S.Denot = c.args.self.now in
+    absurd (changed_otherwise old.catalog.tables s c.in_err-change.field-0.0
+    (IfErr-at_err (MayAnswer (Holds (change_conditions old.catalog.tables s))) c.in_err-change.was is.refused) told))
+
+pub returns-in_err-made-clause-why : goal.returns-in_err-made-clause-why
+returns-in_err-made-clause-why g c =
+    let p = err_from_is_err_and c.from_residual-in_err-made.result c.from_residual-in_err-made.ensures.1 in
+    rw (p.1, p.2) (λ s is usable history kept room told.
+    let refusal = c.in_err-made.field-0.0 in
+    elim c.in_err-made.ensures.refused [
+      | inl none ↦ absurd (not_empty refusal none.0 told)
+      | inr other ↦ elim other [
+        | inl memory ↦ absurd (not_memory refusal memory told)
+        | inr unlawful ↦ absurd (not_constraint refusal unlawful.1 told)
+      ]
+    ])
+
+pub returns-in_err-apply-clause-why : goal.returns-in_err-apply-clause-why
+returns-in_err-apply-clause-why g c =
+    let p = err_from_is_err_and c.from_residual-in_err-apply.result c.from_residual-in_err-apply.ensures.1 in
+    rw (p.1, p.2) (λ s is usable history kept room told.
+    let change = c.in_ok-change.change in
+    let plan = c.in_ok-made.made.plan in
+    let refusal = c.in_err-apply.field-0.0 in
+    let old : EngineState g.row.S.Denot = c.args.self.now in
+    let new : EngineState g.row.S.Denot = c.apply.new.self in
+    let db : Database = (state g.S.Store old.connection).now in
+    let known : IsResolved old.catalog.tables s c.args.word (Ok change) = subst (IsResolved old.catalog.tables s c.args.word) c.in_ok-change.was is in
+    let judged : c.catalog-catalog.result.now ≡ old.catalog = c.catalog-catalog.ensures ∙ ap (λ (e : EngineState g.row.S.Denot). e.catalog) c.self.view_is in
+    let tables : map rows_by_key c.as_slice.result.now ≡ old.tables = ap (map rows_by_key) c.as_slice.ensures.value ∙ ap (λ (e : EngineState g.row.S.Denot). e.tables) c.self.view_is in
+    let of : IsPlanOf change.action (rows_in old.tables change.table) plan =
+    subst (λ (ts : List RowsByKey). IsPlanOf change.action (rows_in ts change.table) plan) tables c.in_ok-made.ensures.plan in
+    let allowed : IsLawfulChange old.catalog.tables (last_state history) change =
+    subst (λ (k : Catalog). IsLawfulChange k.tables (last_state history) change) judged
+    (c.in_ok-made.ensures.lawful (last_state history)
+    (subst (λ (k : Catalog). IsLawfulState k.tables (last_state history)) (sym judged) (lawful_before g.S.Store history old s known.form kept))
+    (subst₂ (λ (k : Catalog) (ts : List RowsByKey). HoldCurrent k.tables (last_state history) ts) (sym judged) (sym tables) (hold_before g.S.Store history old s known.form kept))) in
+    let healthy = room.versions change (subst (λ (ts : List TableDef). ResolvesChange ts s change) (tables_of g.S.Store history old kept) known.change) in
+    let sound : IsHealthy (length plan.added) db = subst (λ (n : ℕ). IsHealthy n db) (sym (counted_added g.S.Store history old s kept change plan of)) healthy in
+    let apart = keys_of db kept.contents kept.stored.now sound.sound in
+    by_fault g.S.Store old.connection new.connection refusal
+    (c.in_err-apply.ensures.why usable kept.contents kept.stored sound
+    (can_make g.S.Store history old s kept change plan of known.sound known.change apart allowed)) told)

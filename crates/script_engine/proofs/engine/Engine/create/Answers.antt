@@ -1,4 +1,4 @@
-use Rattle.std.proofs.Common.{◌≡◌, ◌<◌, ◌++◌, ◌∷◌, ◌∙◌, ℤ, List, [], ap, length, map, refl, subst, sym}
+use Rattle.std.proofs.Common.{◌≡◌, ◌<◌, ◌++◌, ◌∷◌, ◌∙◌, ℤ, List, [], ap, arith, length, length-append, map, refl, subst, sym}
 use Rattle.std.proofs.lemmas.Result.{err_from_is_err_and}
 use Rattle.period_core.specs.Leasts.{MayAnswer, NoneApplies}
 use Rattle.catalog_core.specs.create.Creation.{create_conditions}
@@ -28,6 +28,15 @@ use Rattle.statement_reports.specs.declared.outcome.Word.TheVariants as word
 use Rattle.script_engine.specs.engine.Over.{StepOver}
 use Rattle.script_engine.proofs.OverFacts.{accepted_over, refused_over, untouched_over}
 use Rattle.script_engine.proofs.SameInMemory.{failed_over, list_memory}
+use Rattle.ended_versions.specs.Packed.{PackedVersion}
+use Rattle.history_model.specs.Histories.{catalog_of}
+use Rattle.period_core.specs.declared.refusal.Refusal.TheVariants.{Store}
+use Rattle.sqlite.specs.Held.{state}
+use Rattle.version_tables.specs.Healthy.{IsHealthy}
+use Rattle.version_tables.specs.Steps.{HasFault}
+use Rattle.script_engine.proofs.OnFault.{created_otherwise}
+use Rattle.script_engine.proofs.Refused.{by_fault}
+use Rattle.script_engine.proofs.Steps.{tables_of}
 use Rattle.script_engine.proofs.engine.Engine.create.Goals as goal
 
 -- a table without rows
@@ -70,7 +79,7 @@ returns-in-Ok-clause-step g c usable history kept =
           subst (HaveCurrentRows (with_table definition was.contents)) (sym c.in_ok-add_versions.ensures.rows)
           (current-created was.contents ts definition (without_rows definition) was.current refl refl);
       ended =
-          subst (HaveEnded (with_table definition was.contents)) (sym c.in_ok-add_versions.ensures.closed)
+          subst (HaveEnded (with_table definition was.contents)) (sym c.in_ok-add_versions.ensures.appended)
           (ended-created was.contents c.self.inside.ended.items definition was.ended);
     })
 
@@ -86,7 +95,7 @@ returns-in-Err-clause-step g c usable history kept =
     (record {
       stored = (c.in-Err.ensures.changes usable was.contents was.stored).1;
       current = subst (HaveCurrentRows was.contents) (sym (c.remove_versions.ensures.rows ts (without_rows c.in_ok-definition.definition) c.in_ok-add_versions.ensures.rows)) was.current;
-      ended = subst (HaveEnded was.contents) (sym (c.remove_versions.ensures.ended c.self.inside.ended.items [] c.in_ok-add_versions.ensures.closed)) was.ended;
+      ended = subst (HaveEnded was.contents) (sym (c.remove_versions.ensures.ended c.self.inside.ended.items [] c.in_ok-add_versions.ensures.appended)) was.ended;
     })
     c.in-Err.ensures.named
 
@@ -97,7 +106,7 @@ returns-in-Err-clause-kept g c = λ usable contents has.
     record {
       stored = (c.in-Err.ensures.changes usable contents was.stored).1;
       current = subst (HaveCurrentRows contents) (sym (c.remove_versions.ensures.rows ts (without_rows c.in_ok-definition.definition) c.in_ok-add_versions.ensures.rows)) was.current;
-      ended = subst (HaveEnded contents) (sym (c.remove_versions.ensures.ended c.self.inside.ended.items [] c.in_ok-add_versions.ensures.closed)) was.ended;
+      ended = subst (HaveEnded contents) (sym (c.remove_versions.ensures.ended c.self.inside.ended.items [] c.in_ok-add_versions.ensures.appended)) was.ended;
     }
 
 pub invariant_of-self-in-Ok : goal.invariant_of-self-in-Ok
@@ -107,7 +116,13 @@ invariant_of-self-in-Ok g c =
     ap (λ (k : Catalog). k.tables ++ definition ∷ []) c.catalog-catalog.ensures ∙ sym c.in-Ok.ensures.added in (
       subst (λ (tables : List TableDef). FollowCatalog tables c.add_versions.new.tables.items) known c.in_ok-add_versions.ensures.follow,
       subst (λ (m : ℤ). AllEndedBy m c.add_versions.new.ended.items) (sym c.in-Ok.ensures.clock)
-          (subst (AllEndedBy c.self.inside.store.clock) (sym c.in_ok-add_versions.ensures.closed) (none_ended c.self.inside.store.clock c.self.inside.ended.items c.self.invariant.1)),
+          (subst (AllEndedBy c.self.inside.store.clock) (sym c.in_ok-add_versions.ensures.appended) (none_ended c.self.inside.store.clock c.self.inside.ended.items c.self.invariant.1)),
+      (let lists : List (List PackedVersion) = c.self.inside.ended.items in
+          let tables : List TableDef = c.self.inside.store.catalog.tables in
+          let closed : length c.add_versions.new.ended.items ≡ length (lists ++ [] ∷ []) = ap length c.in_ok-add_versions.ensures.appended in
+          let added : length c.add_table.new.self.catalog.tables ≡ length (tables ++ definition ∷ []) = ap length c.in-Ok.ensures.added in
+          let same : length lists ≡ length tables = c.self.invariant.2 in
+          omega (arith, closed, added, same, length-append lists ([] ∷ []), length-append tables (definition ∷ []))),
     )
 
 pub invariant_of-self-in-Err : goal.invariant_of-self-in-Err
@@ -116,7 +131,8 @@ invariant_of-self-in-Err g c =
       subst (λ (tables : List TableDef). FollowCatalog tables c.remove_versions.new.tables.items) same
           (c.remove_versions.ensures.follow c.catalog-catalog.result.now.tables c.in_ok-definition.definition c.in_ok-add_versions.ensures.follow),
       subst (λ (m : ℤ). AllEndedBy m c.remove_versions.new.ended.items) (sym c.in-Err.ensures.clock)
-          (subst (AllEndedBy c.self.inside.store.clock) (sym (c.remove_versions.ensures.ended c.self.inside.ended.items [] c.in_ok-add_versions.ensures.closed)) c.self.invariant.1),
+          (subst (AllEndedBy c.self.inside.store.clock) (sym (c.remove_versions.ensures.ended c.self.inside.ended.items [] c.in_ok-add_versions.ensures.appended)) c.self.invariant.1),
+      ap length (c.remove_versions.ensures.ended c.self.inside.ended.items [] c.in_ok-add_versions.ensures.appended) ∙ c.self.invariant.2 ∙ ap length (sym c.in-Err.ensures.none),
     )
 
 pub returns-in_err-definition-clause-over : goal.returns-in_err-definition-clause-over
@@ -152,6 +168,27 @@ returns-in-Err-clause-over g c =
     c.in-Err.ensures.named)
     (list_memory old new c.in-Err.ensures.none c.in-Err.ensures.clock
     (c.remove_versions.ensures.rows ts (without_rows c.in_ok-definition.definition) c.in_ok-add_versions.ensures.rows)
-    (c.remove_versions.ensures.ended c.self.inside.ended.items [] c.in_ok-add_versions.ensures.closed))
+    (c.remove_versions.ensures.ended c.self.inside.ended.items [] c.in_ok-add_versions.ensures.appended))
     c.in-Err.ensures.none_stored
     c.add_table.ensures.usable)
+
+-- ---- 62 is due to a fault
+
+pub returns-in_err-definition-clause-why : goal.returns-in_err-definition-clause-why
+returns-in_err-definition-clause-why g c =
+    let p = err_from_is_err_and c.from_residual.result c.from_residual.ensures.1 in
+    rw (p.1, p.2) (λ usable history kept room told.
+    absurd (created_otherwise c.catalog.result.now.tables c.args.create.now c.in_err-definition.field-0.0 c.in_err-definition.ensures.refused told))
+
+pub returns-in-Err-clause-why : goal.returns-in-Err-clause-why
+returns-in-Err-clause-why g c = λ usable history kept room.
+    let old : EngineState g.row.S.Denot = engine_of c.self.inside.store (map rows_by_key c.self.inside.tables.items) c.self.inside.ended.items in
+    let create = c.args.create.now in
+    let definition : TableDef = c.in_ok-definition.definition in
+    let was : EngineRepresents g.S.Store history old = subst (λ s. EngineRepresents g.S.Store history s) (sym c.self.view_is) kept in
+    let sound = subst (λ (e : EngineState g.row.S.Denot). IsHealthy 0 (state g.S.Store e.connection).now) (sym c.self.view_is) room.healthy in
+    let ours : Defines old.catalog.tables create definition = subst (λ (k : Catalog). Defines k.tables create definition) c.catalog.ensures c.in_ok-definition.ensures.defined in
+    let defined : Defines (catalog_of history) create definition = subst (λ (tables : List TableDef). Defines tables create definition) (tables_of g.S.Store history old was) ours in
+    subst (λ (e : EngineState g.row.S.Denot). c.in-Err.refusal ≡ Store → HasFault (state g.S.Store e.connection) (state g.S.Store c.add_table.new.self.connection)) c.self.view_is
+    (by_fault g.S.Store old.connection c.add_table.new.self.connection c.in-Err.refusal
+    (c.in-Err.ensures.why usable was.contents was.stored sound (room.definition create refl definition defined)))

@@ -13,6 +13,9 @@ use Rattle.std.specs.Prelude.{IfErr}
 use Rattle.script_engine.specs.engine.Over.{StepOver}
 use Rattle.script_engine.specs.engine.Runs.{IsQuery, MayRefuseQuery}
 use Rattle.script_engine.proofs.Resolved.{resolved_delete, resolved_insert, resolved_update}
+use Rattle.std.proofs.lemmas.Result.{IfErr-weaker}
+use Rattle.script_engine.specs.engine.Healthy.{StatementFailsOnFault}
+use Rattle.script_engine.proofs.OnFault.{asked_by_fault}
 use Rattle.script_engine.proofs.engine.Engine.execute.Goals as goal
 
 pub returns-in-Sequenced-clause-step : goal.returns-in-Sequenced-clause-step
@@ -162,3 +165,52 @@ returns-in-Update-clause-queries g c usable history kept asks = absurd (subst Is
 
 pub returns-in-Delete-clause-queries : goal.returns-in-Delete-clause-queries
 returns-in-Delete-clause-queries g c usable history kept asks = absurd (subst IsQuery (sym c.form.ensures ∙ ap plain_form c.in-Delete.is) asks)
+
+-- ---- 62 is due to a fault
+
+pub returns-in-At-clause-why : goal.returns-in-At-clause-why
+returns-in-At-clause-why g c =
+    let said : statement.at c.in-At.moment ≡ plain c.args.statement.now = ap plain_form (sym c.in-At.is) ∙ c.form.ensures in
+    subst (λ (s : Statement). StatementFailsOnFault g.S.Store c.args.self.now s c.advance.result c.advance.new.self) said c.advance.ensures.why
+
+pub returns-in-Create-clause-why : goal.returns-in-Create-clause-why
+returns-in-Create-clause-why g c =
+    let said : statement.create c.table.result.now ≡ plain c.args.statement.now = ap statement.create c.table.ensures.value ∙ ap plain_form (sym c.in-Create.is) ∙ c.form.ensures in
+    subst (λ (s : Statement). StatementFailsOnFault g.S.Store c.args.self.now s c.create.result c.create.new.self) said c.create.ensures.why
+
+pub returns-in-Insert-clause-why : goal.returns-in-Insert-clause-why
+returns-in-Insert-clause-why g c =
+    let r : Result Change Refusal = c.resolve_insert-resolved.result in
+    let same : c.catalog.result.now.tables ≡ c.args.self.now.catalog.tables = ap (λ (k : Catalog). k.tables) c.catalog.ensures in
+    let said : statement.insert c.in-Insert.insert ≡ plain c.args.statement.now = ap plain_form (sym c.in-Insert.is) ∙ c.form.ensures in
+    let known : IsResolved c.args.self.now.catalog.tables (plain c.args.statement.now) word.Insert r =
+    subst₂ (λ (tables : List TableDef) (s : Statement). IsResolved tables s word.Insert r) same said (resolved_insert c.catalog.result.now.tables c.in-Insert.insert r c.resolve_insert-resolved.ensures.sound c.resolve_insert-resolved.ensures.resolved c.resolve_insert-resolved.ensures.empty c.resolve_insert-resolved.ensures.refused) in
+    c.change.ensures.why (plain c.args.statement.now) known
+
+pub returns-in-Update-clause-why : goal.returns-in-Update-clause-why
+returns-in-Update-clause-why g c =
+    let r : Result Change Refusal = c.resolve_update-resolved.result in
+    let same : c.catalog-in-Update.result.now.tables ≡ c.args.self.now.catalog.tables = ap (λ (k : Catalog). k.tables) c.catalog-in-Update.ensures in
+    let said : statement.update (plain_update c.in-Update.update) ≡ plain c.args.statement.now = ap plain_form (sym c.in-Update.is) ∙ c.form.ensures in
+    let known : IsResolved c.args.self.now.catalog.tables (plain c.args.statement.now) word.Update r =
+    subst₂ (λ (tables : List TableDef) (s : Statement). IsResolved tables s word.Update r) same said (resolved_update c.catalog-in-Update.result.now.tables (plain_update c.in-Update.update) r c.resolve_update-resolved.ensures.sound c.resolve_update-resolved.ensures.resolved c.resolve_update-resolved.ensures.refused) in
+    c.change-in-Update.ensures.why (plain c.args.statement.now) known
+
+pub returns-in-Delete-clause-why : goal.returns-in-Delete-clause-why
+returns-in-Delete-clause-why g c =
+    let r : Result Change Refusal = c.resolve_delete-resolved.result in
+    let same : c.catalog-in-Delete.result.now.tables ≡ c.args.self.now.catalog.tables = ap (λ (k : Catalog). k.tables) c.catalog-in-Delete.ensures in
+    let said : statement.delete (plain_delete c.in-Delete.delete) ≡ plain c.args.statement.now = ap plain_form (sym c.in-Delete.is) ∙ c.form.ensures in
+    let known : IsResolved c.args.self.now.catalog.tables (plain c.args.statement.now) word.Delete r =
+    subst₂ (λ (tables : List TableDef) (s : Statement). IsResolved tables s word.Delete r) same said (resolved_delete c.catalog-in-Delete.result.now.tables (plain_delete c.in-Delete.delete) r c.resolve_delete-resolved.ensures.sound c.resolve_delete-resolved.ensures.resolved c.resolve_delete-resolved.ensures.refused) in
+    c.change-in-Delete.ensures.why (plain c.args.statement.now) known
+
+pub returns-in-Sequenced-clause-why : goal.returns-in-Sequenced-clause-why
+returns-in-Sequenced-clause-why g c = λ usable history kept room.
+    let asked : Statement = statement.sequenced (plain_query c.in-Sequenced.query) in
+    IfErr-weaker c.answer.result _ _ (λ refusal may told. asked_by_fault g.S.Store c.args.self.now c.answer.new.self asked refusal tt may told) (c.answer.ensures.queries usable history kept)
+
+pub returns-in-Stored-clause-why : goal.returns-in-Stored-clause-why
+returns-in-Stored-clause-why g c = λ usable history kept room.
+    let asked : Statement = statement.stored (plain_stored c.in-Stored.query) in
+    IfErr-weaker c.show.result _ _ (λ refusal may told. asked_by_fault g.S.Store c.args.self.now c.show.new.self asked refusal tt may told) (c.show.ensures.queries usable history kept)

@@ -2,13 +2,16 @@ use Rattle.std.proofs.Common.{◌≡◌, ◌∙◌, ap, subst, sym}
 use Rattle.sql_statements.specs.Plain.{plain, plain_form, plain_query}
 use Rattle.sql_statements.specs.Trees.{Statement}
 use Rattle.sql_statements.specs.Trees as statement
-use Rattle.catalog_core.specs.query.Resolving.{IsSequenced}
+use Rattle.statement_resolution.specs.query.Resolving.{IsSequenced}
 use Rattle.script_engine.specs.engine.Audits.{AuditedStepsTo}
 use Rattle.statement_reports.specs.declared.entry.Entry.{Entry}
 use Rattle.script_engine.proofs.Audited.{not_sequenced, other_entry}
 use Rattle.std.specs.Prelude.{IfErr}
 use Rattle.script_engine.specs.engine.Over.{StepOver}
 use Rattle.script_engine.specs.engine.Runs.{MayRefuseQuery}
+use Rattle.std.proofs.lemmas.Result.{IfErr-weaker}
+use Rattle.script_engine.specs.engine.Healthy.{StatementFailsOnFault}
+use Rattle.script_engine.proofs.OnFault.{asked_by_fault}
 use Rattle.script_engine.proofs.engine.Engine.execute_audited.Goals as goal
 
 pub returns-in-Sequenced-clause-step : goal.returns-in-Sequenced-clause-step
@@ -40,3 +43,14 @@ returns-in-Sequenced-clause-over g c =
 pub returns-in_default-clause-over : goal.returns-in_default-clause-over
 returns-in_default-clause-over g c =
     subst (λ (entry : Entry). StepOver g.S.Store c.args.self.now (plain c.args.statement.now) entry.result c.execute.new.self) (sym c.unaudited.ensures) c.execute.ensures.over
+
+-- ---- 62 is due to a fault
+
+pub returns-in-Sequenced-clause-why : goal.returns-in-Sequenced-clause-why
+returns-in-Sequenced-clause-why g c = λ usable history kept room.
+    let asked : Statement = statement.sequenced (plain_query c.in-Sequenced.query) in
+    IfErr-weaker c.answer_audited.result.result _ _ (λ refusal may told. asked_by_fault g.S.Store c.args.self.now c.answer_audited.new.self asked refusal tt may told) (c.answer_audited.ensures.queries usable history kept)
+
+pub returns-in_default-clause-why : goal.returns-in_default-clause-why
+returns-in_default-clause-why g c =
+    subst (λ (entry : Entry). StatementFailsOnFault g.S.Store c.args.self.now (plain c.args.statement.now) entry.result c.execute.new.self) (sym c.unaudited.ensures) c.execute.ensures.why

@@ -1,6 +1,7 @@
-use Rattle.std.proofs.Common.{◌≡◌, ◌∙◌, [], List, ap, inl, inr, map, subst, sym}
+use Rattle.std.proofs.Common.{◌≡◌, ◌∙◌, [], List, ap, inl, inr, map, refl, subst, sym}
 use Rattle.sqlite.specs.Effect.{Database}
 use Rattle.sqlite.specs.Held.{Held, state}
+use Rattle.sqlite.specs.Schema.{Schema}
 use Rattle.sqlite.specs.Store.{Ghosts}
 use Rattle.history_model.specs.Histories.{History}
 use Rattle.period_keys.specs.Current.{rows_by_key}
@@ -9,15 +10,21 @@ use Rattle.period_core.specs.declared.version.VersionRow.{VersionRow}
 use Rattle.catalog_core.specs.declared.table.catalog.Catalog.{Catalog}
 use Rattle.version_tables.proofs.ColumnFacts.{never}
 use Rattle.version_tables.specs.Steps.{IsAsBefore}
-use Rattle.version_tables.specs.declared.form.Form.TheVariants.{Microseconds}
+use Rattle.version_tables.specs.Healthy.{IsHealthy}
+use Rattle.version_tables.specs.Presence.{HasNoStoreTable}
+use Rattle.version_tables.specs.Tables.{no_schema}
+use Rattle.version_tables.specs.declared.form.Form.{Form}
+use Rattle.version_tables.specs.declared.form.Form.TheVariants.{Microseconds, Seconds}
 use Rattle.version_store.specs.Contents.{AreVersionsOf, Contents, empty_contents}
 use Rattle.version_store.specs.GoodStore.{HaveTables}
-use Rattle.version_store.specs.StoreState.{IsMadeBehind, IsUsable, OpenedRepresents, OpenedState, StoreState}
+use Rattle.version_store.specs.StoreState.{IsCreatedAfter, IsUsable, OpenedRepresents, OpenedState, StoreState}
 use Rattle.version_store.specs.Units.{in_microseconds}
 use Rattle.version_store.specs.Written.{HasIn}
 use Rattle.version_store.proofs.Beside.{spares_then}
 use Rattle.version_store.proofs.Opens.{has_contents, same_contents}
 use Rattle.version_store.proofs.ReadRows.{none_of_nothing}
+use Rattle.version_store.proofs.AfterCalls.{fault_since}
+use Rattle.version_store.proofs.Units.{short_in}
 use Rattle.script_engine.specs.engine.EngineState.{EngineState, engine_of}
 use Rattle.script_engine.specs.engine.InMemory.{AreReadOf}
 use Rattle.script_engine.specs.engine.Stored.{EngineRepresents}
@@ -26,13 +33,18 @@ use Rattle.ended_versions.specs.Packed.{PackedVersion}
 use Rattle.script_engine.proofs.Openings.{all_points, good_and_lawful, good_history, good_tables, its_contents, other_points}
 use Rattle.script_engine.proofs.engine.Engine.open.Goals as goal
 
--- what was read of an opened store is that of the contents that it represents
+-- the catalog and the lists read of an opened store are those of the contents that it represents
 read_of : {S : Type 0} (g : Ghosts S) (opened : OpenedState S) (catalog : Catalog) (lists : List (List VersionRow)) (d : Contents) → catalog ≡ opened.store.catalog → OpenedRepresents g opened d → AreVersionsOf d lists → HaveTables d → AreReadOf d catalog.tables lists
 read_of g opened catalog lists d is stored versions tabled = record { same = ap (λ (k : Catalog). k.tables) is ∙ stored.catalog; versions = versions; tabled = tabled }
 
--- what it keeps in memory
+-- the state of the engine over an opened store
 abbrev opened_engine : {S : Type 0} → StoreState S → List TableRows → List (List PackedVersion) → EngineState S
 opened_engine store tables ended = engine_of store (map rows_by_key tables) ended
+
+-- there are two forms
+seconds_else : (form : Form) → (form ≡ Microseconds → ⊥) → form ≡ Seconds
+seconds_else Seconds none = refl
+seconds_else Microseconds none = absurd (none refl)
 
 pub returns-in-Ok-accept-clause-opened : goal.returns-in-Ok-accept-clause-opened
 returns-in-Ok-accept-clause-opened g c =
@@ -84,7 +96,7 @@ returns-in-Ok-accept-clause-opened g c =
                 )
           ];
       beside = λ usable none counted.
-          subst (λ (store : StoreState g.row.S.Denot). IsMadeBehind (state g.S.Store c.args.connection) (state g.S.Store store.connection)) (same (c.in-Ok.ensures.empty none).2)
+          subst (λ (store : StoreState g.row.S.Denot). IsCreatedAfter (state g.S.Store c.args.connection) (state g.S.Store store.connection)) (same (c.in-Ok.ensures.empty none).2)
           (c.in-Ok.ensures.beside (accepted.usable usable) none counted);
       empty = λ none.
           let made = c.in-Ok.ensures.empty none in
@@ -153,11 +165,11 @@ returns-in-Err-accept-clause-bad g c = λ usable bad. absurd (elim c.in-Err-acce
 -- ---- a good store is refused for a reason
 
 pub returns-in-Err-clause-why : goal.returns-in-Err-clause-why
-returns-in-Err-clause-why g c = λ usable good form rowids. c.in-Err.ensures.why usable (other_points good) rowids
+returns-in-Err-clause-why g c = λ usable good movable rowids. c.in-Err.ensures.why usable (other_points good) rowids
 
--- what is read of it is good, and lawful
+-- the contents read of it are good, and lawful
 pub returns-in-Err-load_lawful-clause-why : goal.returns-in-Err-load_lawful-clause-why
-returns-in-Err-load_lawful-clause-why g c = λ handed good form rowids.
+returns-in-Err-load_lawful-clause-why g c = λ handed good movable rowids.
     let before = subst (IsUsable g.S.Store) c.refuse.ensures.same handed in
     let old : Database = (state g.S.Store c.args.connection).now in
     let five = other_points good in
@@ -167,20 +179,34 @@ returns-in-Err-load_lawful-clause-why g c = λ handed good form rowids.
     let its = read_of g.S.Store c.in-Ok.found.0 c.catalog.result.now c.in-Ok.found.1.items d c.catalog.ensures stored (c.in-Ok.ensures.versions before five.form five.contents has) (good_tables five) in
     inl (c.in-Err-load_lawful.ensures.why d its (good_and_lawful good) (sym (c.clock-clock.ensures ∙ stored.clock)))
 
--- one of form 2 is accepted
+-- one of form 2 is accepted, and one of form 1 is moved
 pub returns-in-Err-accept-clause-why : goal.returns-in-Err-accept-clause-why
-returns-in-Err-accept-clause-why g c = λ usable good form rowids.
+returns-in-Err-accept-clause-why g c = λ usable good movable rowids.
     let before = c.in-Err-accept.ensures.was_usable usable in
     let old : Database = (state g.S.Store c.args.connection).now in
+    let now : Database = (state g.S.Store c.in-Ok.found.0.store.connection).now in
     let five = other_points good in
     let has : HasIn five.form old five.contents = has_contents old five rowids.0 rowids.1 in
-    let two : c.in-Ok.found.0.form ≡ Microseconds = elim (c.in-Ok.ensures.good before (λ all. five.tables_there)) [
-      | inl none ↦ (c.in-Ok.ensures.empty none).2
-      | inr it ↦ elim (c.in-Ok.ensures.unchanged before) [
-        | inl empty ↦ empty.1
-        | inr same ↦
-            let ours = subst (λ (e : Database). HasIn c.in-Ok.found.0.form e it.2.counted) same.0 it.2.now in
-            (same_contents old c.in-Ok.found.0.form five.form it.2.counted five.contents ours has).1 ∙ form
-      ]
-    ] in
-    absurd (never (c.in-Err-accept.ensures.unwritten two).0)
+    let stored = c.in-Ok.ensures.same before five.form five.contents has in
+    let written = λ (two : c.in-Ok.found.0.form ≡ Microseconds). never (c.in-Err-accept.ensures.unwritten two).0 in
+    let same : now ≡ old = elim (c.in-Ok.ensures.unchanged before) [ inl empty ↦ absurd (written empty.1) | inr kept ↦ kept.0 ] in
+    let forms = same_contents old c.in-Ok.found.0.form five.form stored.counted five.contents (subst (λ (e : Database). HasIn c.in-Ok.found.0.form e stored.counted) same stored.now) has in
+    let seconds : five.form ≡ Seconds = seconds_else five.form (λ two. written (forms.1 ∙ two)) in
+    let can = movable seconds in
+    let failed = c.in-Err-accept.ensures.why usable _ stored (record { healthy = subst (IsHealthy 0) (sym same) can.healthy; short = short_in five.form five.contents.versions can.short }) in
+    elim failed [
+      | inl memory ↦ inl memory
+      | inr fault ↦ inr (fault_since (state g.S.Store c.args.connection) (state g.S.Store c.in-Ok.found.0.store.connection) (state g.S.Store c.in-Err-accept.failed.1) c.in-Ok.ensures.faults fault)
+    ]
+
+-- a new store is made, or refused for a reason
+
+missing_in : (schema : Schema) → schema ≡ no_schema → HasNoStoreTable schema
+missing_in schema empty = subst HasNoStoreTable (sym empty) (record { meta = refl; table = refl; version = refl })
+
+pub returns-in-Err-load_lawful-clause-why_new : goal.returns-in-Err-load_lawful-clause-why_new
+returns-in-Err-load_lawful-clause-why_new g c = λ handed empty.
+    absurd (c.in-Err-load_lawful.ensures.some (ap (λ (k : Catalog). k.tables) c.catalog.ensures ∙ (c.in-Ok.ensures.empty (missing_in _ empty)).0))
+
+pub returns-in-Err-accept-clause-why_new : goal.returns-in-Err-accept-clause-why_new
+returns-in-Err-accept-clause-why_new g c = λ usable empty. absurd (never (c.in-Err-accept.ensures.unwritten (c.in-Ok.ensures.empty (missing_in _ empty)).2).0)

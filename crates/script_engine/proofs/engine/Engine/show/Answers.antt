@@ -5,7 +5,7 @@ use Rattle.period_core.specs.declared.refusal.Refusal.TheVariants.{Memory}
 use Rattle.sql_statements.specs.Plain.{plain_stored}
 use Rattle.sql_statements.specs.Trees as statement
 use Rattle.catalog_core.specs.RefusalConditions.{Holds}
-use Rattle.catalog_core.specs.stored.StoredQueries.{ResolvesStoredQuery, stored_query_conditions}
+use Rattle.statement_resolution.specs.stored.StoredQueries.{ResolvesStoredQuery, stored_query_conditions}
 use Rattle.catalog_core.specs.table.TableWords.{table_of}
 use Rattle.catalog_core.specs.declared.table.TableDef.{TableDef}
 use Rattle.catalog_core.specs.declared.table.catalog.Catalog.{Catalog}

@@ -32,6 +32,10 @@ loop-place-preserved c =
           (let was = inv.long in
           let more : length c.push.new.self.items ≡ length (c.loop-place.tables.items ++ c.in_ok-rows.rows ∷ []) = ap length c.in_ok-push.ensures.items in
           omega (arith, was, more, length-append c.loop-place.tables.items (c.in_ok-rows.rows ∷ [])));
+      ended_long =
+          (let was = inv.ended_long in
+          let more : length c.push-in-loop-place.new.self.items ≡ length (c.loop-place.ended.items ++ c.in_ok-rows.list ∷ []) = ap length c.in_ok-push-2.ensures.items in
+          omega (arith, was, more, length-append c.loop-place.ended.items (c.in_ok-rows.list ∷ [])));
       below = omega (arith, inside);
       left = λ number above. c.take_rows-versions.ensures.others number (λ same. omega (arith, above, same)) ∙ inv.left number (omega (arith, above));
       current = λ d read.
@@ -54,6 +58,12 @@ loop-place-preserved c =
 pub returns-clause-count : goal.returns-clause-count
 returns-clause-count c =
     let long = c.loop-place.invariant.long in
+    let below = c.loop-place.invariant.below in
+    omega (arith, long, below, c.loop-place-test.false, c.len-place-end.ensures)
+
+pub returns-clause-ended_count : goal.returns-clause-ended_count
+returns-clause-ended_count c =
+    let long = c.loop-place.invariant.ended_long in
     let below = c.loop-place.invariant.below in
     omega (arith, long, below, c.loop-place-test.false, c.len-place-end.ensures)
 

@@ -9,6 +9,7 @@ use Rattle.script_engine.proofs.engine.in_memory.load.Given as goal
 abbrev pub invariant-loop-place : goal.invariant-loop-place
 invariant-loop-place l = record {
   long : length l.tables.items ≡ l.place;
+  ended_long : length l.ended.items ≡ l.place;
   below : l.place ≤ length l.catalog.tables;
   left : (number : ℕ) → l.place < number → rows_of_table l.lists.items number ≡ rows_of_table l.fn.lists.items number;
   current : (c : Contents) → AreReadOf c l.catalog.tables l.fn.lists.items → AreLoaded c l.place l.tables.items;

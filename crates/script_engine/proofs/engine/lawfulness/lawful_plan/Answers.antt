@@ -2,7 +2,7 @@ use Rattle.std.proofs.Common.{◌≡◌, ◌∙◌, ℕ, false, inl, inr, [], Li
 use Rattle.std.specs.Option.{option_map_or}
 use Rattle.std.proofs.lemmas.Bool.{false≢true}
 use Rattle.std.proofs.lemmas.Result.{err_from_is_err_and}
-use Rattle.catalog_core.specs.change.Resolution.{has_empty_row}
+use Rattle.catalog_core.specs.change.EmptyRows.{has_empty_row}
 use Rattle.catalog_core.specs.declared.change.Action.{Action}
 use Rattle.period_core.specs.declared.version.VersionRow.{VersionRow}
 use Rattle.period_core.specs.declared.row.PeriodRow.{PeriodRow}

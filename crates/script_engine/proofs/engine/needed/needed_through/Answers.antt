@@ -1,33 +1,25 @@
-use Rattle.std.proofs.Common.{◌≡◌, ℕ, List, Some, map}
-use Rattle.catalog_core.specs.declared.condition.CompareValues.{CompareValues}
-use Rattle.catalog_core.specs.table.TableWords.{table_of}
-use Rattle.history_model.specs.Histories.{History}
-use Rattle.period_core.specs.declared.value.Value.{Value}
+use Rattle.std.proofs.Common.{◌≡◌, ◌++◌, ◌∙◌, List, ap, map, subst, sym}
+use Rattle.ended_versions.specs.Packed.{seen_through}
+use Rattle.history_model.specs.Versions.{row_of}
+use Rattle.period_core.specs.declared.row.PeriodRow.{PeriodRow}
+use Rattle.period_core.specs.declared.version.VersionRow.{VersionRow}
+use Rattle.period_keys.specs.declared.key_range.KeyRange.{KeyRange}
 use Rattle.period_keys.specs.Current.{rows_by_key}
-use Rattle.period_keys.specs.FixedKeys.{FixesKeyWithin}
-use Rattle.period_keys.specs.Rows.{RowsByKey}
-use Rattle.period_keys.proofs.PlanParts.{if_ok}
-use Rattle.sql_statements.specs.declared.tree.Tree.{Tree}
-use Rattle.script_engine.specs.engine.Answering.{SeesRows}
-use Rattle.script_engine.specs.engine.Needed.{IsNeeded, SeesWidth}
-use Rattle.script_engine.specs.engine.Stored.{RowsRepresent}
-use Rattle.script_engine.proofs.Needed.{whole_needed}
+use Rattle.script_engine.specs.engine.Needed.{IsNeeded, ranged_rows_in}
+use Rattle.script_engine.proofs.NeededPast.{past_needed}
 use Rattle.script_engine.proofs.engine.needed.needed_through.Goals as goal
 
-pub returns-in-Some : goal.returns-in-Some
-returns-in-Some c =
+pub returns : goal.returns
+returns c = λ history kept wide.
     let reference = c.args.reference.now in
     let tables = map rows_by_key c.args.tables.now in
     let positions = c.positions_of_number-positions.result.now in
-    let key : List Value = c.in-Some.key in
-    let fixes : FixesKeyWithin c.args.conjuncts.now c.args.start c.args.width positions key = rw c.in-Some.is at c.in_ok-key.ensures.fixed in
-    if_ok c.needed_of_key.result
-    (λ rows. (history : History) → RowsRepresent history tables c.args.ended.now → ((t : RowsByKey) → table_of tables reference.table ≡ Some t → positions ≡ t.positions)
-    → (conjuncts : List (Tree CompareValues)) (start width : ℕ) → SeesWidth history reference width → FixesKeyWithin conjuncts start width positions key → IsNeeded history conjuncts start reference rows) _
-    (λ rows needs history kept wide. needs history kept c.positions_of_number-positions.ensures c.args.conjuncts.now c.args.start c.args.width wide fixes) c.needed_of_key.ensures
-
-pub returns-in-None : goal.returns-in-None
-returns-in-None c =
-    let reference = c.args.reference.now in
-    if_ok c.seen_by.result (λ rows. (history : History) → RowsRepresent history (map rows_by_key c.args.tables.now) c.args.ended.now → SeesRows history reference rows) _
-    (λ rows sees history kept wide. whole_needed history c.args.conjuncts.now c.args.start reference rows (sees history kept)) c.seen_by.ensures
+    let range : KeyRange = c.in_ok-range.range in
+    let ended = kept.ended reference.table in
+    let first : List PeriodRow = map row_of (seen_through reference.window (ranged_rows_in tables reference.table range)) in
+    let (some, lack, added) = c.in_ok-push_ended_within.ensures ended.versions ended.held in
+    let made : c.push_ended_within.new.rows.items ≡ first ++ map row_of some =
+    added ∙ ap (λ (l : List PeriodRow). l ++ map row_of some) (c.in_ok-push_current_within.ensures ∙ ap (λ (l : List PeriodRow). l ++ first) c.new-rows.ensures.items) in
+    subst (IsNeeded history c.args.conjuncts.now c.args.start reference) (sym c.from_vec.ensures)
+    (past_needed history tables c.args.ended.now reference c.args.conjuncts.now c.args.start c.args.width positions range some c.push_ended_within.new.rows.items kept
+    c.positions_of_number-positions.ensures wide c.in_ok-range.ensures.within lack made)

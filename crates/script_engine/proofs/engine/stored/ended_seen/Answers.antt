@@ -15,19 +15,18 @@ returns-then-eq c = λ versions hold.
     if_ok c.seen.result (λ seen. seen.items ≡ reverse (seen_through c.args.query.now.window versions)) _
     (λ seen is. ap (shown_versions c.args.query.now) is) (c.seen.ensures versions hold)
 
-pub returns-in_ok-values-in-Some : goal.returns-in_ok-values-in-Some
-returns-in_ok-values-in-Some c = λ versions hold.
+pub returns-in-Some : goal.returns-in-Some
+returns-in-Some c = λ versions hold.
     let query = c.args.query.now in
     let positions = c.args.positions.now in
-    let key : List Value = c.in-Some.key in
-    let same : c.as_slice.result.now ≡ key = c.as_slice.ensures ∙ c.in_ok-values-in-Some.ensures in
-    let fixed : (v : VersionRow) → is_shown query v ≡ true → version_key positions v ≡ key = rw c.in-Some.is at c.in_ok-key.ensures in
+    let key : List Value = c.in-Some.key.now in
+    let fixed : (v : VersionRow) → is_shown query v ≡ true → version_key positions v ≡ key = λ v shown. c.in-Some.ensures.whole v.values (c.in_ok-range.ensures v shown) in
     let past : List VersionRow = seen_through query.window versions in
-    if_ok c.seen_of_key.result (λ seen. seen.items ≡ reverse (filter (shares_hash positions c.as_slice.result.now) past)) _
-    (λ seen is. ap (shown_versions query) (is ∙ ap (λ (k : List Value). reverse (filter (shares_hash positions k) past)) same) ∙ keyed_shown query positions key past fixed)
+    if_ok c.seen_of_key.result (λ seen. seen.items ≡ reverse (filter (shares_hash positions key) past)) _
+    (λ seen is. ap (shown_versions query) is ∙ keyed_shown query positions key past fixed)
     (c.seen_of_key.ensures versions hold)
 
-pub returns-in-None : goal.returns-in-None
-returns-in-None c = λ versions hold.
+pub returns : goal.returns
+returns c = λ versions hold.
     if_ok c.seen-in-None.result (λ seen. seen.items ≡ reverse (seen_through c.args.query.now.window versions)) _
     (λ seen is. ap (shown_versions c.args.query.now) is) (c.seen-in-None.ensures versions hold)

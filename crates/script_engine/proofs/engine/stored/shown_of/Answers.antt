@@ -1,45 +1,46 @@
-use Rattle.std.proofs.Common.{◌≡◌, ◌++◌, [], ◌∙◌, ℕ, true, List, sym, ap, append_assoc, append-nil}
+use Rattle.std.proofs.Common.{◌≡◌, ◌++◌, [], ◌∙◌, ℕ, true, List, map, refl, subst, sym, ap, append_assoc, append-nil, arith}
+use Rattle.std.specs.Borrow.{Bor}
 use Rattle.std.proofs.lemmas.List.Elements.{filter-append}
 use Rattle.sqlite_trees.proofs.ListLemmas.{filter-filter}
-use Rattle.period_core.specs.OrderLaws.{values_eq}
-use Rattle.period_core.specs.declared.value.Value.{Value}
-use Rattle.period_keys.specs.Versions.{is_of_key, version_key}
-use Rattle.catalog_core.specs.stored.StoredAnswers.{is_shown, shown_versions}
 use Rattle.period_core.specs.declared.version.VersionRow.{VersionRow}
-use Rattle.period_keys.specs.Rows.{rows_of_lists}
+use Rattle.catalog_core.specs.stored.StoredAnswers.{is_shown, shown_versions}
+use Rattle.period_keys.specs.declared.key_range.KeyRange.{KeyRange}
+use Rattle.period_keys.specs.declared.key_rows.KeyRows.{KeyRows}
+use Rattle.period_keys.specs.Rows.{rows_of_lists, rows_within}
+use Rattle.period_keys.specs.Versions.{has_key_in}
+use Rattle.std.proofs.lemmas.List.{nil_from_length}
 use Rattle.script_engine.proofs.engine.stored.shown_of.Goals as goal
 
--- what is shown is of the key, where the condition fixes one
-pub returns-in-Some : goal.returns-in-Some
-returns-in-Some c =
-    let query = c.args.query.now in
-    let positions : List ℕ = c.args.current.now.positions in
-    let key : List Value = c.in-Some.key in
-    let fixed : (v : VersionRow) → is_shown query v ≡ true → version_key c.positions.result.now v ≡ key = rw c.in-Some.is at c.in_ok-key.ensures in
-    let of_key : (v : VersionRow) → is_shown query v ≡ true → is_of_key positions key v ≡ true =
-    λ v shown. (values_eq key (version_key positions v)).1 (sym (ap (λ (ps : List ℕ). version_key ps v) (sym c.positions.ensures) ∙ fixed v shown)) in
-    c.in_ok-push_shown.ensures
-    ∙ ap (λ (xs : List VersionRow). xs ++ shown_versions query c.of_key.result.now) c.new-shown.ensures.items
-    ∙ ap (shown_versions query) c.of_key.ensures
-    ∙ filter-filter (is_shown query) (is_of_key positions key) of_key c.args.current.now.rows
+abbrev rows_of : List (Bor KeyRows) → List VersionRow
+rows_of groups = rows_of_lists (map (λ (g : Bor KeyRows). g.now) groups)
 
 pub loop-group-init : goal.loop-group-init
-loop-group-init c = ([], sym (ap rows_of_lists c.into_iter-group-iterator.ensures.into_iter_gives ∙ c.groups-group-items.ensures), c.new-shown.ensures.items)
+loop-group-init c = ([], refl, c.new-shown.ensures.items)
 
 pub loop-group-preserved : goal.loop-group-preserved
 loop-group-preserved c =
+    let query = c.args.query.now in
     let (done, split, made) = c.loop-group.invariant in
-    let group : List VersionRow = c.in-Some-group.group.now.rows.items in
-    let left : rows_of_lists c.loop-group.group-iterator ≡ group ++ rows_of_lists c.next.new.self = ap rows_of_lists c.in-Some-group.ensures.steps in (
-      done ++ group,
-      split ∙ ap (λ (xs : List VersionRow). done ++ xs) left ∙ sym (append_assoc done group (rows_of_lists c.next.new.self)),
-      c.in_ok-push_shown-2.ensures ∙ ap (λ (xs : List VersionRow). xs ++ shown_versions c.args.query.now c.as_slice.result.now) made
-          ∙ ap (λ (xs : List VersionRow). shown_versions c.args.query.now done ++ shown_versions c.args.query.now xs) c.as_slice.ensures
-          ∙ sym (filter-append (is_shown c.args.query.now) done group),
+    let rows : List VersionRow = c.in-Some.group.now.rows.items in
+    let rest : List VersionRow = rows_of c.next.new.self.rest.items in
+    let left : rows_of c.loop-group.group-iterator.rest.items ≡ rows ++ rest = ap rows_of c.in-Some.ensures.steps.0 in (
+      done ++ rows,
+      split ∙ ap (λ (xs : List VersionRow). done ++ xs) left ∙ sym (append_assoc done rows rest),
+      c.in_ok-push_shown.ensures ∙ ap (λ (xs : List VersionRow). xs ++ shown_versions query c.as_slice.result.now) made
+          ∙ ap (λ (xs : List VersionRow). shown_versions query done ++ shown_versions query xs) c.as_slice.ensures
+          ∙ sym (filter-append (is_shown query) done rows),
     )
 
+-- the shown versions are of the keys that the condition leaves
 pub returns : goal.returns
 returns c =
+    let query = c.args.query.now in
+    let range : KeyRange = c.in_ok-range.range in
     let (done, split, made) = c.loop-group.invariant in
-    let all : done ≡ c.args.current.now.rows = sym (split ∙ ap (λ (xs : List VersionRow). done ++ xs) (ap rows_of_lists c.in-None.ensures.steps.0) ∙ append-nil done) in
-    made ∙ ap (shown_versions c.args.query.now) all
+    let none : c.loop-group.group-iterator.rest.items ≡ [] = nil_from_length c.loop-group.group-iterator.rest.items (grind (arith, c.loop-group.group-iterator.rest.ok, c.in-None.ensures.steps)) in
+    let ranged : (v : VersionRow) → is_shown query v ≡ true → has_key_in c.args.current.now.positions range v ≡ true =
+    subst (λ (positions : List ℕ). (v : VersionRow) → is_shown query v ≡ true → has_key_in positions range v ≡ true) c.positions.ensures c.in_ok-range.ensures in
+    let all : done ≡ rows_within c.args.current.now range =
+    sym (split ∙ ap (λ (xs : List VersionRow). done ++ xs) (ap rows_of none) ∙ append-nil done)
+    ∙ ap rows_of c.into_iter-group-iterator.ensures.into_iter_gives.0 ∙ c.in_ok-group-items.ensures in
+    made ∙ ap (shown_versions query) all ∙ filter-filter (is_shown query) (has_key_in c.args.current.now.positions range) ranged c.args.current.now.rows

@@ -1,9 +1,13 @@
-use Rattle.std.proofs.Common.{◌≡◌, ◌++◌, List}
+use Rattle.std.proofs.Common.{◌≡◌, ◌++◌, List, map}
+use Rattle.std.specs.Borrow.{Bor}
 use Rattle.catalog_core.specs.stored.StoredAnswers.{shown_versions}
 use Rattle.period_core.specs.declared.version.VersionRow.{VersionRow}
+use Rattle.period_keys.specs.declared.key_rows.KeyRows.{KeyRows}
 use Rattle.period_keys.specs.Rows.{rows_of_lists}
 use Rattle.script_engine.proofs.engine.stored.shown_of.Given as goal
 
 abbrev pub invariant-loop-group : goal.invariant-loop-group
 invariant-loop-group l =
-    (done : List VersionRow) × (l.current.rows ≡ done ++ rows_of_lists l.group-iterator) × (l.shown.items ≡ shown_versions l.query done)
+    (done : List VersionRow)
+    × (rows_of_lists (map (λ (g : Bor KeyRows). g.now) l.initial.group-iterator.rest.items) ≡ done ++ rows_of_lists (map (λ (g : Bor KeyRows). g.now) l.group-iterator.rest.items))
+    × (l.shown.items ≡ shown_versions l.query done)

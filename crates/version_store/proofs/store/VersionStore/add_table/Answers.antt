@@ -4,7 +4,7 @@ use Rattle.sqlite.specs.Held.{state}
 use Rattle.version_tables.specs.Healthy.{IsHealthy, IsShort}
 use Rattle.version_store.specs.StoreState.{IsFailure, StoreRepresents, StoreState}
 use Rattle.version_store.specs.Written.{written}
-use Rattle.version_store.proofs.Standing.{failed_for, next_number, table_put}
+use Rattle.version_store.proofs.AfterCalls.{failed_for, next_number, table_put}
 use Rattle.version_store.proofs.store.VersionStore.add_table.Goals as goal
 
 pub returns-in-Ok-clause-changes : goal.returns-in-Ok-clause-changes

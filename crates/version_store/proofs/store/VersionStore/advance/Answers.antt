@@ -4,7 +4,7 @@ use Rattle.version_tables.specs.Healthy.{IsHealthy}
 use Rattle.std.proofs.lemmas.Result.{err_from_is_err_and}
 use Rattle.version_store.specs.StoreState.{IsFailure, StoreRepresents, StoreState}
 use Rattle.version_store.specs.Written.{written}
-use Rattle.version_store.proofs.Standing.{failed_for, stays}
+use Rattle.version_store.proofs.AfterCalls.{failed_for, stays}
 use Rattle.version_store.proofs.store.VersionStore.advance.Goals as goal
 
 pub returns-in_err-write_clock-clause-changes : goal.returns-in_err-write_clock-clause-changes

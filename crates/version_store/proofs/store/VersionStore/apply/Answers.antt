@@ -6,7 +6,7 @@ use Rattle.period_core.specs.Moments.{IsMomentNumber}
 use Rattle.version_store.specs.StoreState.{IsFailure, StoreRepresents, StoreState}
 use Rattle.version_store.proofs.Dated.{planned_dated}
 use Rattle.version_store.proofs.Keys.{keys_of}
-use Rattle.version_store.proofs.Standing.{failed_for, stays}
+use Rattle.version_store.proofs.AfterCalls.{failed_for, stays}
 use Rattle.version_store.proofs.store.VersionStore.apply.Goals as goal
 
 pub returns-clause-changes : goal.returns-clause-changes

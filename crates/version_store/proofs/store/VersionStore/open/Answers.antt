@@ -2,10 +2,12 @@ use Rattle.std.proofs.Common.{◌≡◌, ◌∙◌, ℤ, [], IsTrue, ap, ap₂, 
 use Rattle.std.proofs.lemmas.Int.{ints}
 use Rattle.sqlite.specs.Effect.{Database}
 use Rattle.sqlite.specs.Held.{state}
+use Rattle.sqlite.specs.Schema.{Schema}
 use Rattle.version_tables.proofs.There.{not_both_ways, store_is_whole}
 use Rattle.version_tables.specs.Forms.{IsNumberIn, moment_in}
 use Rattle.version_tables.specs.Good.{IsClock}
 use Rattle.version_tables.specs.Presence.{HasNoStoreTable}
+use Rattle.version_tables.specs.Tables.{no_schema}
 use Rattle.version_tables.specs.declared.form.Form.{Form}
 use Rattle.version_tables.specs.declared.presence.Presence.TheVariants.{Missing, Partial, Whole}
 use Rattle.version_store.proofs.Opens.{are_dated, good_dated, have_tables, same_contents}
@@ -23,6 +25,10 @@ partial_missing e = absurd cc
 
 partial_whole : Partial ≡ Whole → ⊥
 partial_whole e = absurd cc
+
+-- a database without tables has none of the three
+missing_in : (schema : Schema) → schema ≡ no_schema → HasNoStoreTable schema
+missing_in schema empty = subst HasNoStoreTable (sym empty) (record { meta = refl; table = refl; version = refl })
 
 pub returns-in-Ok-clause-good : goal.returns-in-Ok-clause-good
 returns-in-Ok-clause-good g c = λ usable ours. inl (c.in-Missing.ensures.missing.0 refl)
@@ -160,4 +166,15 @@ returns-in-None-clause-why g c = λ usable good own.
 -- a new store is healthy
 
 pub returns-in-Some-clause-healthy : goal.returns-in-Some-clause-healthy
-returns-in-Some-clause-healthy g c = λ usable empty. absurd (not_both_ways c.args.connection.schema (subst HasNoStoreTable (sym empty) (record { meta = refl; table = refl; version = refl })) (c.in-Whole.ensures.whole.0 refl))
+returns-in-Some-clause-healthy g c = λ usable empty. absurd (not_both_ways c.args.connection.schema (missing_in _ empty) (c.in-Whole.ensures.whole.0 refl))
+
+-- ---- why a new store is refused
+
+pub returns-in-Partial-clause-why_new : goal.returns-in-Partial-clause-why_new
+returns-in-Partial-clause-why_new g c = λ usable empty. absurd (partial_missing (c.in-Partial.ensures.missing.1 (missing_in _ empty)))
+
+pub returns-in-Err-inspect-clause-why_new : goal.returns-in-Err-inspect-clause-why_new
+returns-in-Err-inspect-clause-why_new g c = λ usable empty. absurd (not_both_ways c.args.connection.schema (missing_in _ empty) (c.in-Whole.ensures.whole.0 refl))
+
+pub returns-in-None-clause-why_new : goal.returns-in-None-clause-why_new
+returns-in-None-clause-why_new g c = λ usable empty. absurd (not_both_ways c.args.connection.schema (missing_in _ empty) (c.in-Whole.ensures.whole.0 refl))

@@ -4,7 +4,7 @@ use Rattle.sqlite.specs.Held.{state}
 use Rattle.version_tables.specs.Steps.{IsAsBefore, KeepsFaults}
 use Rattle.version_store.specs.Contents.{AreDated, AreRowsOf, Contents}
 use Rattle.version_store.specs.StoreState.{IsFailure, IsUsable, StoreRepresents, StoreState}
-use Rattle.version_store.proofs.Standing.{stays}
+use Rattle.version_store.proofs.AfterCalls.{stays}
 use Rattle.version_store.proofs.Units.{same_units}
 use Rattle.version_store.proofs.store.VersionStore.rows.Goals as goal
 

@@ -3,7 +3,7 @@ use Rattle.sqlite.specs.Held.{state}
 use Rattle.version_tables.specs.Steps.{IsAsBefore, KeepsFaults}
 use Rattle.version_store.specs.StoreState.{IsFailure, IsUsable, StoreRepresents, StoreState}
 use Rattle.version_store.specs.Scans.{IsOwnRefusal}
-use Rattle.version_store.proofs.Standing.{stays}
+use Rattle.version_store.proofs.AfterCalls.{stays}
 use Rattle.version_store.proofs.store.VersionStore.scan.Goals as goal
 
 pub returns-clause-visited : goal.returns-clause-visited

@@ -1,0 +1,30 @@
+-- Copies of a store in files of their own.
+use Rattle.std.specs.Prelude.{◌≡◌, IfOk, Result, ℕ}
+use Rattle.sqlite.specs.Held.{Held, state}
+use Rattle.sqlite.specs.Store.{Ghosts}
+use Rattle.sqlite_disk.specs.Memory.{memory_bytes}
+use Rattle.sqlite_disk.specs.declared.memory.Memory.{Memory}
+use Rattle.version_store.specs.StoreState.{IsUsable}
+use Rattle.history_model.specs.Histories.{History}
+use Rattle.script_engine.specs.engine.Stored.{DatabaseRepresents}
+use Rattle.command_line.specs.declared.fault.RunFault.{RunFault}
+use Rattle.bitemporal_file.specs.Copies.{IsFileOf}
+use Rattle.bitemporal_file.specs.StoreFiles.{Filing}
+use Rattle.bitemporal_file.specs.StoreRuns.{LeadsDatabase, Uses}
+use Rattle.bitemporal_file.specs.declared.reporter.Reporter.{Reporter}
+
+-- a copy of an open store is made: the history stays, and where its disk returned what was written
+-- the bytes that were made are a file of that history
+pub record IsCopied {S : Type 0} (g : Ghosts S) (opened : Held S) (ended : Result Memory RunFault)
+    (closed : Held S) : Type 0 where
+  pub same : LeadsDatabase g opened closed (λ history last. last ≡ history)
+  pub copied : IfOk ended (λ file. IsUsable g closed → (history : History)
+      → DatabaseRepresents history (state g opened).now → IsFileOf history (memory_bytes file))
+
+-- a copy of a store is made, and nothing is reported
+abbrev pub BacksUp : {S W : Type 0} → Ghosts S → Filing S → Result ℕ RunFault → Reporter W
+    → Type 0
+BacksUp {S} {W} g files result report =
+    Uses g files (λ reporter. reporter ≡ report)
+    (λ opened ended closed reporter. IsCopied g opened ended closed × (reporter ≡ report))
+    result report

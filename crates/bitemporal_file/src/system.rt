@@ -1,0 +1,27 @@
+//! The system as a run sees it, apart from its files: the clock, new files, and standard error.
+
+ghost use Rattle.std.specs.Prelude.{ℕ, IfErr, List, OnOk, ⊤};
+ghost use Rattle.bitemporal_file.specs.Copies.{AnyFile, IsCopyFault};
+
+use crate::new_file::make_file;
+use command_line::RunFault;
+use std::time::Clock;
+
+/// The system, of which contracts know no more than what it was asked for.
+pub(crate) trait System: Clock {
+    // A file of that name was made with the bytes.
+    ghost made: { List ℕ → List ℕ → Type 0 };
+
+    /// Makes a file of that name with the bytes. If there is one, it stays.
+    fn make(&self, name: &str, bytes: &[u8]) -> Result<(), RunFault>
+        ensures made { OnOk result (made name.now bytes.now) }
+        ensures fault { IfErr result IsCopyFault };
+}
+
+impl System for HostRuntime {
+    ghost made = { AnyFile };
+
+    fn make(&self, name: &str, bytes: &[u8]) -> Result<(), RunFault> {
+        make_file(self, name, bytes)
+    }
+}

@@ -1,6 +1,0 @@
-use Rattle.std.specs.Prelude.{◌≡◌, Some, map, take}
-use Rattle.catalog_core.specs.Positions.{resolved_assignment}
-use Rattle.catalog_core.proofs.positions.resolve_assignments.Given as goal
-
-abbrev pub invariant-loop-set : goal.invariant-loop-set
-invariant-loop-set l = map (resolved_assignment l.table) (take l.set-index l.assignments) ≡ map (λ a. Some a) l.numbered.items

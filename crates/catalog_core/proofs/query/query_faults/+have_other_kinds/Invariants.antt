@@ -1,5 +1,0 @@
-use Rattle.std.proofs.Common.{length}
-use Rattle.catalog_core.proofs.query.query_faults.+have_other_kinds.Given as goal
-
-abbrev pub decreases-have_other_kinds : goal.decreases-have_other_kinds
-decreases-have_other_kinds l = length l.left.now

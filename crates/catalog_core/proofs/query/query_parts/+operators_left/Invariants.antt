@@ -1,9 +1,0 @@
-use Rattle.std.proofs.Common.{◌≡◌, ◌+◌, take}
-use Rattle.catalog_core.proofs.lemmas.query.QueryWalks.{count_steps}
-use Rattle.catalog_core.proofs.query.query_parts.+operators_left.Given as goal
-
-abbrev pub decreases-operators_left : goal.decreases-operators_left
-decreases-operators_left l = goal.size-operators_left l
-
-abbrev pub invariant-loop-step : goal.invariant-loop-step
-invariant-loop-step l = l.left + count_steps (take l.step-index l.step-items) ≡ l.initial.left

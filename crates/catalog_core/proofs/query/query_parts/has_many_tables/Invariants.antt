@@ -1,6 +1,0 @@
-use Rattle.std.proofs.Common.{◌≡◌, ◌+◌, length}
-use Rattle.catalog_core.proofs.lemmas.query.ReferenceLists.{front_tables}
-use Rattle.catalog_core.proofs.query.query_parts.has_many_tables.Given as goal
-
-abbrev pub invariant-loop-chain : goal.invariant-loop-chain
-invariant-loop-chain l = l.room + length (front_tables l.chains l.chain-index) ≡ 4

@@ -1,6 +1,0 @@
-use Rattle.std.specs.Prelude.{◌≡◌, ◌++◌}
-use Rattle.catalog_core.proofs.lemmas.query.ColumnLists.{seen_front}
-use Rattle.catalog_core.proofs.query.seen_column.push_columns.Given as goal
-
-abbrev pub invariant-loop-place : goal.invariant-loop-place
-invariant-loop-place l = l.columns.items ≡ l.initial.columns.items ++ seen_front l.known_as l.table l.declared l.place

@@ -1,0 +1,2 @@
+pub mod SortFacts
+pub mod SumFacts

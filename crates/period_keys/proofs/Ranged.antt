@@ -1,0 +1,415 @@
+-- Keys in a range: in the order of keys they are next to each other, but for some that are passed over.
+use Rattle.std.proofs.Common.{◌≡◌, ◌&&◌, ◌⊎◌, ◌++◌, ◌∷◌, [], ◌∙◌, ◌≤◌, ◌+◌, ℕ, Bool, true, false, cond, List, None, Option, Some, inl, inr, length, length-append, not, take, take_all, drop, filter, refl, sym, ap, ap₂, append-nil, arith, subst}
+use Rattle.std.specs.Prelude.{⊤, ◌↔◌, IfSome, IsTrue, MatchOption}
+use Rattle.std.specs.Cmp.{both_ways}
+use Rattle.std.specs.Vec.{vec_len}
+use Rattle.std.specs.Borrow.{Bor}
+use Rattle.std.specs.Option.{option_copied}
+use Rattle.std.specs.List.{AllByRecursion, Contains, cons_option, filter_map, slice_get}
+use Rattle.std.specs.List.Sorted.{IsStrictlySortedBy}
+use Rattle.std.specs.Map.{keys_of, values_of}
+use Rattle.std.specs.Ordering.{is_eq, is_gt, is_le, is_lt, ordering_reverse, ordering_then}
+use Rattle.std.specs.declared.cmp.Ordering.{Ordering}
+use Rattle.std.specs.declared.cmp.Ordering.TheVariants.{Less, Equal, Greater}
+use Rattle.std.specs.declared.ops.Bound.TheVariants as bound
+use Rattle.std.specs.BTreeMap.{BTreeMap}
+use Rattle.std.specs.BTreeMap.Range.{entries_between, range_contains}
+use Rattle.std.proofs.lemmas.Bool.{and_parts, false≢true}
+use Rattle.std.proofs.lemmas.Cmp.{tied_itself}
+use Rattle.std.proofs.lemmas.List.{drop_more, take-append-drop, take_at}
+use Rattle.std.proofs.lemmas.Option.{get_or_from_slice_get, slice_get_within}
+use Rattle.std.proofs.lemmas.List.Elements.{Contains-append_right, filter-append, filter_map-append}
+use Rattle.sql_statements.specs.declared.statement.Comparison.TheVariants as comparison
+use Rattle.sql_statements.specs.declared.statement.Comparison.TheVariants.{LessOrEqual, GreaterOrEqual}
+use Rattle.catalog_core.specs.Conditions.{compared}
+use Rattle.period_core.specs.Order.{value_cmp, values_cmp}
+use Rattle.period_core.specs.OrderLaws.{value_cmp-same, value_cmp_total, values_eq}
+use Rattle.period_core.specs.declared.value.Value.{Value}
+use Rattle.period_core.specs.declared.version.VersionRow.{VersionRow}
+use Rattle.temporal_model.proofs.Members.{Contains-here}
+use Rattle.period_keys.specs.declared.key_range.KeyRange.{KeyRange}
+use Rattle.period_keys.specs.declared.key_range.Limit.{Limit}
+use Rattle.period_keys.specs.declared.key_range.Limit.TheVariants.{Included, Excluded, Unbounded}
+use Rattle.period_keys.specs.declared.key_rows.KeyRows.{KeyRows}
+use Rattle.period_keys.specs.Keys.{values_at}
+use Rattle.period_keys.specs.Ranges.{IfLimited, IsLimitOf, begins_with, first_values, is_above, is_at_lower, is_below, is_in_range, is_passed_over, limit_of, limit_values}
+use Rattle.period_keys.specs.Rows.{AreGrouped, HaveKey, rows_of_groups}
+use Rattle.period_keys.specs.Versions.{has_key_in, version_key}
+use Rattle.period_keys.proofs.Grouped.{Entries, each_alike, rows_in}
+use Rattle.period_keys.proofs.Members.{from_filter}
+
+-- ---- in the order of values
+
+-- a value that is not after one within an upper limit is within it
+not_after : (test : Ordering → Bool) → test Less ≡ true → test Greater ≡ false → (a b u : Value) (r s : Ordering) → value_cmp a b ≡ r → value_cmp b u ≡ s → not (is_gt r) ≡ true → test s ≡ true → test (value_cmp a u) ≡ true
+not_after test less greater a b u Less Less ab bu le h = ap test (value_cmp_total.trans a b u ab bu) ∙ less
+not_after test less greater a b u Less Equal ab bu le h = ap test (ap (value_cmp a) (sym (value_cmp-same b u bu)) ∙ ab) ∙ less
+not_after test less greater a b u Less Greater ab bu le h = absurd (false≢true (sym greater ∙ h))
+not_after test less greater a b u Equal s ab bu le h = ap test (value_cmp_total.congr a b u ab ∙ bu) ∙ h
+not_after test less greater a b u Greater s ab bu le h = absurd (false≢true le)
+
+below_down : (upper : Limit) (a b : Value) → not (is_gt (value_cmp a b)) ≡ true → is_below upper (Some b) ≡ true → is_below upper (Some a) ≡ true
+below_down (Included u) a b le h = not_after (λ (r : Ordering). not (is_gt r)) refl refl a b u (value_cmp a b) (value_cmp b u) refl refl le h
+below_down (Excluded u) a b le h = not_after (λ (r : Ordering). is_lt r) refl refl a b u (value_cmp a b) (value_cmp b u) refl refl le h
+below_down Unbounded a b le h = refl
+
+-- ---- in the order of keys
+
+-- the second list begins with the first
+abbrev pub Leads : List Value → List Value → Type 0
+Leads leading key = leading ≡ take (length leading) key
+
+nothing_first : (k : List Value) → is_le (values_cmp [] k) ≡ true
+nothing_first [] = refl
+nothing_first (y ∷ k) = refl
+
+le_then : (r : Ordering) (k : List Value) → not (is_lt r) ≡ true → is_le (ordering_then (ordering_reverse r) (values_cmp [] k)) ≡ true
+le_then Less k h = absurd (false≢true h)
+le_then Equal k h = nothing_first k
+le_then Greater k h = refl
+
+gt_not_lt : (r : Ordering) → is_gt r ≡ true → not (is_lt r) ≡ true
+gt_not_lt Less h = absurd (false≢true h)
+gt_not_lt Equal h = refl
+gt_not_lt Greater h = refl
+
+le_limit : (v y : Value) (k : List Value) → not (is_lt (value_cmp y v)) ≡ true → is_le (values_cmp (v ∷ []) (y ∷ k)) ≡ true
+le_limit v y k h = ap (λ (r : Ordering). is_le (ordering_then r (values_cmp [] k))) (value_cmp_total.antisymm v y) ∙ le_then (value_cmp y v) k h
+
+limit_first : (lower : Limit) (k : List Value) → is_above lower (slice_get k 0) ≡ true → is_le (values_cmp (limit_values lower) k) ≡ true
+limit_first (Included v) [] h = absurd (false≢true h)
+limit_first (Included v) (y ∷ k) h = le_limit v y k h
+limit_first (Excluded v) [] h = absurd (false≢true h)
+limit_first (Excluded v) (y ∷ k) h = le_limit v y k (gt_not_lt (value_cmp y v) h)
+limit_first Unbounded k h = nothing_first k
+
+-- a key that begins with the values, and has the next one within the lower limit, is not before these
+not_before : (p : List Value) (lower : Limit) (k : List Value) → Leads p k → is_above lower (slice_get k (length p)) ≡ true → is_le (values_cmp (p ++ limit_values lower) k) ≡ true
+not_before [] lower k leads h = limit_first lower k h
+not_before (x ∷ p) lower [] leads h = absurd cc
+not_before (x ∷ p) lower (y ∷ k) leads h =
+    let same : x ≡ y = cc in
+    let rest : Leads p k = cc in
+    let tie : value_cmp x y ≡ Equal = subst (λ (z : Value). value_cmp x z ≡ Equal) same (tied_itself value_cmp_total x) in
+    ap (λ (r : Ordering). is_le (ordering_then r (values_cmp (p ++ limit_values lower) k))) tie ∙ not_before p lower k rest h
+
+-- the next value is within both limits, or is passed over
+abbrev pub IsNext : Limit → Limit → Option Value → Type 0
+IsNext lower upper value = ((is_above lower value ≡ true) × (is_below upper value ≡ true)) ⊎ (is_at_lower lower value ≡ true)
+
+le_of_then : (r s : Ordering) → ordering_then r s ≡ Less → not (is_gt r) ≡ true
+le_of_then Less s h = refl
+le_of_then Equal s h = refl
+le_of_then Greater s h = absurd cc
+
+none_passed : (lower : Limit) → is_at_lower lower None ≡ true
+none_passed (Included v) = refl
+none_passed (Excluded v) = refl
+none_passed Unbounded = refl
+
+-- a value that the lower limit is not after
+from_limit : (lower upper : Limit) (y : Value) (k : List Value) → is_le (values_cmp (limit_values lower) (y ∷ k)) ≡ true → is_below upper (Some y) ≡ true → IsNext lower upper (Some y)
+from_limit (Included v) upper y k from below = inl (by_order (value_cmp y v) refl, below)
+  where
+    by_order : (r : Ordering) → value_cmp y v ≡ r → not (is_lt (value_cmp y v)) ≡ true
+    by_order Less is = absurd (false≢true (sym (ap (λ (r : Ordering). is_le (ordering_then r (values_cmp [] k))) (value_cmp_total.antisymm v y ∙ ap ordering_reverse is)) ∙ from))
+    by_order Equal is = ap (λ (r : Ordering). not (is_lt r)) is
+    by_order Greater is = ap (λ (r : Ordering). not (is_lt r)) is
+from_limit (Excluded v) upper y k from below = by_order (value_cmp y v) refl
+  where
+    by_order : (r : Ordering) → value_cmp y v ≡ r → IsNext (Excluded v) upper (Some y)
+    by_order Less is = absurd (false≢true (sym (ap (λ (r : Ordering). is_le (ordering_then r (values_cmp [] k))) (value_cmp_total.antisymm v y ∙ ap ordering_reverse is)) ∙ from))
+    by_order Equal is = inr (ap is_eq is)
+    by_order Greater is = inl (ap is_gt is, below)
+from_limit Unbounded upper y k from below = inl (refl, below)
+
+next_of : (lower upper : Limit) (k l : List Value) → is_le (values_cmp (limit_values lower) k) ≡ true → values_cmp k l ≡ Less → is_below upper (slice_get l 0) ≡ true → IsNext lower upper (slice_get k 0)
+next_of lower upper [] l from less below = inr (none_passed lower)
+next_of lower upper (y ∷ k) [] from less below = absurd cc
+next_of lower upper (y ∷ k) (z ∷ l) from less below = from_limit lower upper y k from (below_down upper y z (le_of_then (value_cmp y z) (values_cmp k l) less) below)
+
+-- between the first values and a key in the range, each key is in it or is passed over
+between : (p : List Value) (lower upper : Limit) (k l : List Value) → is_le (values_cmp (p ++ limit_values lower) k) ≡ true → values_cmp k l ≡ Less → Leads p l → is_below upper (slice_get l (length p)) ≡ true
+    → Leads p k × IsNext lower upper (slice_get k (length p))
+between [] lower upper k l from less leads below = (refl, next_of lower upper k l from less below)
+between (x ∷ p) lower upper k [] from less leads below = absurd cc
+between (x ∷ p) lower upper [] (z ∷ l) from less leads below = absurd (false≢true from)
+between (x ∷ p) lower upper (y ∷ k) (z ∷ l) from less leads below = by_order (λ behind later. between p lower upper k l behind later rest below) (value_cmp x y) refl
+  where
+    same : x ≡ z
+    same = cc
+
+    rest : Leads p l
+    rest = cc
+
+    start : List Value
+    start = p ++ limit_values lower
+
+    by_order : (is_le (values_cmp start k) ≡ true → values_cmp k l ≡ Less → Leads p k × IsNext lower upper (slice_get k (length p))) → (r : Ordering) → value_cmp x y ≡ r → Leads (x ∷ p) (y ∷ k) × IsNext lower upper (slice_get k (length p))
+    by_order others Less is =
+        let turned : value_cmp y z ≡ Greater = ap (value_cmp y) (sym same) ∙ value_cmp_total.antisymm y x ∙ ap ordering_reverse is in
+        absurd (let wrong : Greater ≡ Less = sym (ap (λ (r : Ordering). ordering_then r (values_cmp k l)) turned) ∙ less in cc)
+    by_order others Equal is =
+        let tied : x ≡ y = value_cmp-same x y is in
+        let level : value_cmp y z ≡ Equal = subst (λ (v : Value). value_cmp v z ≡ Equal) tied (subst (λ (v : Value). value_cmp x v ≡ Equal) same (tied_itself value_cmp_total x)) in
+        let later : values_cmp k l ≡ Less = sym (ap (λ (r : Ordering). ordering_then r (values_cmp k l)) level) ∙ less in
+        let behind : is_le (values_cmp start k) ≡ true = sym (ap (λ (r : Ordering). is_le (ordering_then r (values_cmp start k))) is) ∙ from in
+        let its = others behind later in
+        (ap₂ (λ (v : Value) (vs : List Value). v ∷ vs) tied its.0, its.1)
+    by_order others Greater is = absurd (false≢true (sym (ap (λ (r : Ordering). is_le (ordering_then r (values_cmp start k))) is) ∙ from))
+
+-- a decided beginning
+pub begins_is : (b : Bool) (p k : List Value) → (IsTrue b ↔ Leads p k) → b ≡ begins_with p k
+begins_is b p k decides =
+    both_ways b (begins_with p k) (λ is. (values_eq p (take (length p) k)).1 (decides.0 is)) (λ is. decides.1 ((values_eq p (take (length p) k)).0 is))
+
+pub and_is : (a b : Bool) → a ≡ true → b ≡ (a && b)
+and_is a b is = sym (ap (λ (t : Bool). t && b) is)
+
+pub and_not : (t a b : Bool) → t ≡ a → t ≡ false → t ≡ (a && b)
+and_not t a b same not = not ∙ sym (ap (λ (u : Bool). u && b) (sym same ∙ not))
+
+-- the next value, by the number of values as the list keeps it
+pub next_of_range : (test : Option Value → Bool) (range : KeyRange) (key : List Value) (count : ℕ) → count ≡ vec_len range.leading → test (slice_get key count) ≡ test (slice_get key (length range.leading.items))
+next_of_range test range key count is = (let ok = range.leading.ok.0 in ap (λ (n : ℕ). test (slice_get key n)) (omega (arith, is, ok)))
+
+-- ---- groups in the order of their keys
+
+module _ (range : KeyRange) where
+  -- the group's key is in the range
+  abbrev pub is_in : List Value × KeyRows → Bool
+  is_in group = is_in_range range group.0
+
+  -- a group whose key is not before the first values
+  abbrev pub is_from : List Value × KeyRows → Bool
+  is_from group = range_contains values_cmp (bound.Included (first_values range)) bound.Unbounded group.0
+
+  -- the first of these groups, if there is one, is neither in the range nor passed over
+  abbrev pub StopsAt : Entries → Type 0
+  StopsAt [] = ⊤
+  StopsAt (group ∷ groups) = (is_in group ≡ false) × (is_passed_over range group.0 ≡ false)
+
+  parts : (group : List Value × KeyRows) → is_in group ≡ true
+      → Leads range.leading.items group.0 × (is_above range.lower (slice_get group.0 (length range.leading.items)) ≡ true) × (is_below range.upper (slice_get group.0 (length range.leading.items)) ≡ true)
+  parts group is =
+      let next = slice_get group.0 (length range.leading.items) in
+      let both = and_parts (begins_with range.leading.items group.0) (is_above range.lower next && is_below range.upper next) is in
+      let limits = and_parts (is_above range.lower next) (is_below range.upper next) both.1 in
+      ((values_eq range.leading.items (take (length range.leading.items) group.0)).0 both.0, limits.0, limits.1)
+
+  in_from : (group : List Value × KeyRows) → is_in group ≡ true → is_from group ≡ true
+  in_from group is = (let its = parts group is in
+      ap (λ (b : Bool). b && true) (not_before range.leading.items range.lower group.0 its.0 its.1))
+
+  -- behind a group that is not before the first values, and neither in the range nor passed over, none is in the range
+  none_behind : (first group : List Value × KeyRows) → is_from first ≡ true → is_in first ≡ false → is_passed_over range first.0 ≡ false → values_cmp first.0 group.0 ≡ Less → is_in group ≡ true → ⊥
+  none_behind first group from out over less is =
+      let its = parts group is in
+      let n = length range.leading.items in
+      let next = slice_get first.0 n in
+      let found = between range.leading.items range.lower range.upper first.0 group.0 (and_parts (is_le (values_cmp (first_values range) first.0)) true from).0 less its.0 its.2 in
+      let begins : begins_with range.leading.items first.0 ≡ true = (values_eq range.leading.items (take n first.0)).1 found.0 in
+      elim found.1 [
+        | inl both ↦ false≢true (sym out ∙ ap₂ (λ (a b : Bool). a && b) begins (ap₂ (λ (a b : Bool). a && b) both.0 both.1))
+        | inr passed ↦ false≢true (sym over ∙ ap₂ (λ (a b : Bool). a && b) begins passed)
+      ]
+
+  none_after : (first : List Value × KeyRows) (groups : Entries) → is_from first ≡ true → StopsAt (first ∷ []) → AllByRecursion (λ (key : List Value). values_cmp first.0 key ≡ Less) (keys_of groups) → filter is_in groups ≡ []
+  none_after first [] from stops behind = refl
+  none_after first (group ∷ groups) from stops behind = by_test (is_in group) refl (none_after first groups from stops behind.1)
+    where
+      by_test : (t : Bool) → is_in group ≡ t → filter is_in groups ≡ [] → filter is_in (group ∷ groups) ≡ []
+      by_test true is rest = absurd (none_behind first group from stops.0 stops.1 behind.0 is)
+      by_test false is rest = ap (λ (t : Bool). cond t (group ∷ filter is_in groups) (filter is_in groups)) is ∙ rest
+
+  still_after : (k : List Value) (groups : Entries) → AllByRecursion (λ (key : List Value). values_cmp k key ≡ Less) (keys_of groups) → AllByRecursion (λ (key : List Value). values_cmp k key ≡ Less) (keys_of (filter is_from groups))
+  still_after k [] all = all
+  still_after k (group ∷ groups) all = by_test (is_from group) (still_after k groups all.1)
+    where
+      by_test : (t : Bool) → AllByRecursion (λ (key : List Value). values_cmp k key ≡ Less) (keys_of (filter is_from groups)) → AllByRecursion (λ (key : List Value). values_cmp k key ≡ Less) (keys_of (cond t (group ∷ filter is_from groups) (filter is_from groups)))
+      by_test true rest = (all.0, rest)
+      by_test false rest = rest
+
+  -- of ordered groups that are not before the first values, those behind one are after it
+  ordered_behind : (groups seen : Entries) (group : List Value × KeyRows) (rest : Entries) → IsStrictlySortedBy values_cmp (keys_of groups) → filter is_from groups ≡ seen ++ group ∷ rest → AllByRecursion (λ (key : List Value). values_cmp group.0 key ≡ Less) (keys_of rest)
+  unfolding IsStrictlySortedBy
+  ordered_behind [] [] group rest ordered split = absurd cc
+  ordered_behind [] (s ∷ seen) group rest ordered split = absurd cc
+  ordered_behind (first ∷ groups) seen group rest ordered split = by_test (λ seen split. ordered_behind groups seen group rest ordered.1 split) (is_from first) seen split
+    where
+      by_test : ((seen : Entries) → filter is_from groups ≡ seen ++ group ∷ rest → AllByRecursion (λ (key : List Value). values_cmp group.0 key ≡ Less) (keys_of rest)) → (t : Bool) (seen : Entries) → cond t (first ∷ filter is_from groups) (filter is_from groups) ≡ seen ++ group ∷ rest → AllByRecursion (λ (key : List Value). values_cmp group.0 key ≡ Less) (keys_of rest)
+      by_test later true [] split =
+          let same : first ≡ group = cc in
+          let more : filter is_from groups ≡ rest = cc in
+          subst (λ (g : List Value × KeyRows). AllByRecursion (λ (key : List Value). values_cmp g.0 key ≡ Less) (keys_of rest)) same
+          (subst (λ (es : Entries). AllByRecursion (λ (key : List Value). values_cmp first.0 key ≡ Less) (keys_of es)) more (still_after first.0 groups ordered.0))
+      by_test later true (s ∷ seen) split = (let more : filter is_from groups ≡ seen ++ group ∷ rest = cc in later seen more)
+      by_test later false seen split = later seen split
+
+  through : (groups : Entries) → filter is_in (filter is_from groups) ≡ filter is_in groups
+  through [] = refl
+  through (group ∷ groups) = by_test (is_from group) (is_in group) refl refl (through groups)
+    where
+      by_test : (f t : Bool) → is_from group ≡ f → is_in group ≡ t → filter is_in (filter is_from groups) ≡ filter is_in groups → filter is_in (cond f (group ∷ filter is_from groups) (filter is_from groups)) ≡ filter is_in (group ∷ groups)
+      by_test true t from is rest = ap (λ (es : Entries). cond (is_in group) (group ∷ es) es) rest
+      by_test false true from is rest = absurd (false≢true (sym from ∙ in_from group is))
+      by_test false false from is rest = rest ∙ sym (ap (λ (t : Bool). cond t (group ∷ filter is_in groups) (filter is_in groups)) is)
+
+  -- the groups in the range are among the first that are not before the first values
+  first_in : (groups seen rest : Entries) → IsStrictlySortedBy values_cmp (keys_of groups) → filter is_from groups ≡ seen ++ rest → StopsAt rest → filter is_in groups ≡ filter is_in seen
+  first_in groups seen rest ordered split stops =
+      sym (through groups) ∙ ap (filter is_in) split ∙ filter-append is_in seen rest ∙ ap (λ (es : Entries). filter is_in seen ++ es) (none rest split stops) ∙ append-nil (filter is_in seen)
+    where
+      none : (rest : Entries) → filter is_from groups ≡ seen ++ rest → StopsAt rest → filter is_in rest ≡ []
+      none [] split stops = refl
+      none (group ∷ rest) split stops =
+          let from : is_from group ≡ true = (from_filter is_from groups group (subst (λ (es : Entries). Contains es group) (sym split) (Contains-append_right seen (group ∷ rest) group (Contains-here group rest)))).1 in
+          ap (λ (t : Bool). cond t (group ∷ filter is_in rest) (filter is_in rest)) stops.0 ∙ none_after group rest from stops (ordered_behind groups seen group rest ordered split)
+
+  module _ (positions : List ℕ) where
+    -- the rows of the groups whose keys are in the range
+    ranged_rows : (groups : Entries) → AllByRecursion (HaveKey positions) groups → filter (has_key_in positions range) (rows_of_groups groups) ≡ rows_of_groups (filter is_in groups)
+    ranged_rows [] keyed = refl
+    ranged_rows (group ∷ groups) keyed =
+        filter-append (has_key_in positions range) (rows_in group.1) (rows_of_groups groups)
+        ∙ ap (λ (xs : List VersionRow). xs ++ filter (has_key_in positions range) (rows_of_groups groups))
+        (each_alike (has_key_in positions range) (is_in group) (rows_in group.1) (λ v c. ap (is_in_range range) (sym (keyed.0 v c))))
+        ∙ by_test (is_in group) (ranged_rows groups keyed.1)
+      where
+        by_test : (t : Bool) → filter (has_key_in positions range) (rows_of_groups groups) ≡ rows_of_groups (filter is_in groups)
+            → cond t (rows_in group.1) [] ++ filter (has_key_in positions range) (rows_of_groups groups) ≡ rows_of_groups (cond t (group ∷ filter is_in groups) (filter is_in groups))
+        by_test true rest = ap (λ (xs : List VersionRow). rows_in group.1 ++ xs) rest
+        by_test false rest = rest
+
+    pub found_in : (groups : BTreeMap (List Value) KeyRows) (seen rest : Entries) → AreGrouped positions groups → entries_between values_cmp (bound.Included (first_values range)) bound.Unbounded groups.entries ≡ seen ++ rest
+        → StopsAt rest → rows_of_groups (filter is_in seen) ≡ filter (has_key_in positions range) (rows_of_groups groups.entries)
+    found_in groups seen rest grouped split stops =
+        ap rows_of_groups (sym (first_in groups.entries seen rest grouped.ordered split stops)) ∙ sym (ranged_rows groups.entries grouped.keyed)
+
+  -- ---- groups that are found one after another
+
+  pub in_more : (seen : Entries) (group : List Value × KeyRows) → is_in group ≡ true → values_of (filter is_in (seen ++ group ∷ [])) ≡ values_of (filter is_in seen) ++ group.1 ∷ []
+  in_more seen group is = ap values_of (filter-append is_in seen (group ∷ []) ∙ ap (λ (t : Bool). filter is_in seen ++ cond t (group ∷ []) []) is) ∙ values_more (filter is_in seen)
+    where
+      values_more : (done : Entries) → values_of (done ++ group ∷ []) ≡ values_of done ++ group.1 ∷ []
+      values_more [] = refl
+      values_more (d ∷ done) = ap (λ (xs : List KeyRows). d.1 ∷ xs) (values_more done)
+
+  pub out_more : (seen : Entries) (group : List Value × KeyRows) → is_in group ≡ false → values_of (filter is_in (seen ++ group ∷ [])) ≡ values_of (filter is_in seen)
+  out_more seen group is = ap values_of (filter-append is_in seen (group ∷ []) ∙ ap (λ (t : Bool). filter is_in seen ++ cond t (group ∷ []) []) is ∙ append-nil (filter is_in seen))
+
+-- ---- rows of which something is known of the values at the positions of the key
+
+-- a key begins with its values at the first positions
+begins_by_first : (positions : List ℕ) (leading values : List Value) → values_at (take (length leading) positions) values ≡ leading → values_at positions values ≡ leading ++ values_at (drop (length leading) positions) values
+begins_by_first positions leading values first =
+    let n = length leading in
+    ap (filter_map (slice_get values)) (sym (take-append-drop n positions))
+    ∙ filter_map-append (slice_get values) (take n positions) (drop n positions)
+    ∙ ap (λ (vs : List Value). vs ++ values_at (drop n positions) values) first
+
+pub begins : (positions : List ℕ) (leading values : List Value) → values_at (take (length leading) positions) values ≡ leading → begins_with leading (values_at positions values) ≡ true
+begins positions leading values first =
+    let n = length leading in
+    (values_eq leading (take n (values_at positions values))).1
+    (sym (ap (take n) (begins_by_first positions leading values first) ∙ take_at leading (values_at (drop n positions) values) n refl))
+
+get_here : (xs : List Value) (v : Value) (ys : List Value) → slice_get (xs ++ v ∷ ys) (length xs) ≡ Some v
+get_here [] v ys = refl
+get_here (x ∷ xs) v ys = get_here xs v ys
+
+-- the value after them is the one at the next position
+next_value : (positions : List ℕ) (leading values : List Value) (next : ℕ) (v : Value) → values_at (take (length leading) positions) values ≡ leading → slice_get positions (length leading) ≡ Some next → slice_get values next ≡ Some v
+    → slice_get (values_at positions values) (length leading) ≡ Some v
+next_value positions leading values next v first at is =
+    let n = length leading in
+    let later : List ℕ = drop (n + 1) positions in
+    let split : drop n positions ≡ next ∷ later = drop_more positions n 0 (slice_get_within positions n next at) ∙ ap (λ (p : ℕ). p ∷ later) (get_or_from_slice_get positions n next 0 at) in
+    let there : values_at (drop n positions) values ≡ v ∷ values_at later values = ap (λ (ps : List ℕ). values_at ps values) split ∙ ap (λ (o : Option Value). cons_option o (values_at later values)) is in
+    ap (λ (vs : List Value). slice_get vs n) (begins_by_first positions leading values first ∙ ap (λ (vs : List Value). leading ++ vs) there) ∙ get_here leading v (values_at later values)
+
+kept_above : (lower : Limit) (o p : Option Value) → ((v : Value) → o ≡ Some v → p ≡ Some v) → is_above lower o ≡ true → is_above lower p ≡ true
+kept_above (Included l) None p same h = absurd (false≢true h)
+kept_above (Included l) (Some v) p same h = ap (is_above (Included l)) (same v refl) ∙ h
+kept_above (Excluded l) None p same h = absurd (false≢true h)
+kept_above (Excluded l) (Some v) p same h = ap (is_above (Excluded l)) (same v refl) ∙ h
+kept_above Unbounded o p same h = refl
+
+kept_below : (upper : Limit) (o p : Option Value) → ((v : Value) → o ≡ Some v → p ≡ Some v) → is_below upper o ≡ true → is_below upper p ≡ true
+kept_below (Included l) None p same h = absurd (false≢true h)
+kept_below (Included l) (Some v) p same h = ap (is_below (Included l)) (same v refl) ∙ h
+kept_below (Excluded l) None p same h = absurd (false≢true h)
+kept_below (Excluded l) (Some v) p same h = ap (is_below (Excluded l)) (same v refl) ∙ h
+kept_below Unbounded o p same h = refl
+
+-- a key that begins with the leading values, and whose value at the next position is within the limits, is in the range
+pub in_range : (range : KeyRange) (positions : List ℕ) (values : List Value) (next : ℕ) → values_at (take (length range.leading.items) positions) values ≡ range.leading.items → slice_get positions (length range.leading.items) ≡ Some next
+    → is_above range.lower (slice_get values next) ≡ true → is_below range.upper (slice_get values next) ≡ true → is_in_range range (values_at positions values) ≡ true
+in_range range positions values next first at above below =
+    let leading = range.leading.items in
+    let moved : (v : Value) → slice_get values next ≡ Some v → slice_get (values_at positions values) (length leading) ≡ Some v = λ v is. next_value positions leading values next v first at is in
+    let own = slice_get (values_at positions values) (length leading) in
+    ap₂ (λ (a b : Bool). a && b) (begins positions leading values first)
+    (ap₂ (λ (a b : Bool). a && b) (kept_above range.lower (slice_get values next) own moved above) (kept_below range.upper (slice_get values next) own moved below))
+
+-- one without limits is if it begins so
+pub led_in_range : (range : KeyRange) (positions : List ℕ) (values : List Value) → values_at (take (length range.leading.items) positions) values ≡ range.leading.items → range.lower ≡ Unbounded → range.upper ≡ Unbounded → is_in_range range (values_at positions values) ≡ true
+led_in_range range positions values first lower upper =
+    let own = slice_get (values_at positions values) (length range.leading.items) in
+    ap₂ (λ (a b : Bool). a && b) (begins positions range.leading.items values first)
+    (ap₂ (λ (a b : Bool). a && b) (ap (λ (l : Limit). is_above l own) lower) (ap (λ (l : Limit). is_below l own) upper))
+
+-- ---- limits that conditions say
+
+pub if_limited : (With Without With_too Without_too : Value → Type 0) (limit : Limit) → ((v : Value) → With v → With_too v) → ((v : Value) → Without v → Without_too v) → IfLimited With Without limit → IfLimited With_too Without_too limit
+if_limited With Without With_too Without_too (Included l) with without h = with l h
+if_limited With Without With_too Without_too (Excluded l) with without h = without l h
+if_limited With Without With_too Without_too Unbounded with without h = tt
+
+pub said_limited : (With Without : Value → Type 0) (limit : Limit) → IsLimitOf With Without limit → IfLimited With Without limit
+said_limited With Without (Included l) h = h
+said_limited With Without (Excluded l) h = h
+said_limited With Without Unbounded h = tt
+
+pub above_limited : (lower : Limit) (o : Option Value) → IfLimited (λ v. compared GreaterOrEqual o (Some v) ≡ true) (λ v. compared comparison.Greater o (Some v) ≡ true) lower → is_above lower o ≡ true
+above_limited (Included l) o h = h
+above_limited (Excluded l) o h = h
+above_limited Unbounded o h = refl
+
+pub below_limited : (upper : Limit) (o : Option Value) → IfLimited (λ v. compared LessOrEqual o (Some v) ≡ true) (λ v. compared comparison.Less o (Some v) ≡ true) upper → is_below upper o ≡ true
+below_limited (Included l) o h = h
+below_limited (Excluded l) o h = h
+below_limited Unbounded o h = refl
+
+-- a limit of what is found
+pub limit_said : (With Without : Value → Type 0) (included excluded : Option (Bor Value)) → MatchOption included ((v : Value) → With v → ⊥) (λ v. With v.now) → MatchOption excluded ((v : Value) → Without v → ⊥) (λ v. Without v.now)
+    → IsLimitOf With Without (limit_of (option_copied included) (option_copied excluded))
+limit_said With Without (Some v) excluded with without = with
+limit_said With Without None (Some v) with without = without
+limit_said With Without None None with without = λ v. (with v, without v)
+
+pub limit_held : (With Without : Value → Type 0) (included excluded : Option (Bor Value)) → IfSome included (λ v. With v.now) → IfSome excluded (λ v. Without v.now)
+    → IfLimited With Without (limit_of (option_copied included) (option_copied excluded))
+limit_held With Without (Some v) excluded with without = with
+limit_held With Without None (Some v) with without = without
+limit_held With Without None None with without = tt
+
+-- ---- ranges of one key
+
+at_most : (positions : List ℕ) (values : List Value) → length (values_at positions values) ≤ length positions
+at_most [] values = omega arith
+at_most (p ∷ positions) values = by_value (slice_get values p) (at_most positions values)
+  where
+    by_value : (o : Option Value) → length (values_at positions values) ≤ length positions → length (cons_option o (values_at positions values)) ≤ length (p ∷ positions)
+    by_value None h = omega (arith, h)
+    by_value (Some v) h = omega (arith, h)
+
+-- a key of no more values than the leading ones is these
+pub whole_key : (range : KeyRange) (positions : List ℕ) (values : List Value) → length positions ≤ length range.leading.items → is_in_range range (values_at positions values) ≡ true → values_at positions values ≡ range.leading.items
+whole_key range positions values whole is =
+    let key = values_at positions values in
+    let n = length range.leading.items in
+    let next = slice_get key n in
+    let begins_so = (and_parts (begins_with range.leading.items key) (is_above range.lower next && is_below range.upper next) is).0 in
+    let leads : range.leading.items ≡ take n key = (values_eq range.leading.items (take n key)).0 begins_so in
+    sym (leads ∙ take_all n key (omega (arith, whole, at_most positions values)))

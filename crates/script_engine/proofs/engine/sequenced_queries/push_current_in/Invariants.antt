@@ -1,0 +1,14 @@
+use Rattle.std.proofs.Common.{◌≡◌, ◌++◌, List, map}
+use Rattle.std.specs.Borrow.{Bor}
+use Rattle.ended_versions.specs.Packed.{seen_through}
+use Rattle.history_model.specs.Versions.{row_of}
+use Rattle.period_core.specs.declared.version.VersionRow.{VersionRow}
+use Rattle.period_keys.specs.declared.key_rows.KeyRows.{KeyRows}
+use Rattle.period_keys.specs.Rows.{rows_of_lists}
+use Rattle.script_engine.proofs.engine.sequenced_queries.push_current_in.Given as goal
+
+abbrev pub invariant-loop-group : goal.invariant-loop-group
+invariant-loop-group l =
+    (done : List VersionRow)
+    × (rows_of_lists (map (λ (g : Bor KeyRows). g.now) l.initial.group-iterator.rest.items) ≡ done ++ rows_of_lists (map (λ (g : Bor KeyRows). g.now) l.group-iterator.rest.items))
+    × (l.rows.items ≡ l.fn.rows.items ++ map row_of (seen_through l.window done))

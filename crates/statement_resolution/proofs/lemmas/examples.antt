@@ -1,0 +1,4 @@
+pub mod InsertExamples
+pub mod QueryExamples
+pub mod UpdateExamples
+pub mod StoredExamples

@@ -1,0 +1,97 @@
+-- Faults, collected over a list: in a loop, of two lists, of a list's images.
+use Rattle.std.proofs.Common.{◌≡◌, ◌<◌, ◌≤◌, ◌+◌, ◌++◌, ◌∷◌, ◌||◌, ◌∙◌, ℕ, Bool, true, false, List, [], get_or, take, take_all, length, map, refl, sym, ap}
+use Rattle.std.specs.List.{list_any}
+use Rattle.std.proofs.lemmas.List.{take_more}
+use Rattle.statement_resolution.specs.Faults.{either, faults_among, no_faults}
+use Rattle.statement_resolution.specs.declared.faults.Faults.{Faults}
+
+or_assoc : (a b c : Bool) → ((a || b) || c) ≡ (a || (b || c))
+or_assoc true b c = refl
+or_assoc false b c = refl
+
+or_none : (a : Bool) → (a || false) ≡ a
+or_none true = refl
+or_none false = refl
+
+pub either_assoc : (f g h : Faults) → either (either f g) h ≡ either f (either g h)
+either_assoc f g h =
+    rw (
+      or_assoc f.table g.table h.table,
+      or_assoc f.unknown g.unknown h.unknown,
+      or_assoc f.ambiguous g.ambiguous h.ambiguous,
+      or_assoc f.twice g.twice h.twice,
+      or_assoc f.period g.period h.period,
+      or_assoc f.count g.count h.count,
+      or_assoc f.kinds g.kinds h.kinds,
+      or_assoc f.long g.long h.long,
+      or_assoc f.empty g.empty h.empty,
+    ) refl
+
+pub either_none : (f : Faults) → either f no_faults ≡ f
+either_none f =
+    rw (
+      or_none f.table,
+      or_none f.unknown,
+      or_none f.ambiguous,
+      or_none f.twice,
+      or_none f.period,
+      or_none f.count,
+      or_none f.kinds,
+      or_none f.long,
+      or_none f.empty,
+    ) refl
+
+pub among_append : {X : Type 0} (f : X → Faults) (xs ys : List X) → faults_among f (xs ++ ys) ≡ either (faults_among f xs) (faults_among f ys)
+among_append f [] ys = refl
+among_append f (x ∷ xs) ys =
+    ap (either (f x)) (among_append f xs ys) ∙ sym (either_assoc (f x) (faults_among f xs) (faults_among f ys))
+
+pub among_push : {X : Type 0} (f : X → Faults) (xs : List X) (x : X) → faults_among f (xs ++ x ∷ []) ≡ either (faults_among f xs) (f x)
+among_push f xs x = among_append f xs (x ∷ []) ∙ ap (either (faults_among f xs)) (either_none (f x))
+
+pub among_map : {X Y : Type 0} (f : Y → Faults) (g : X → Y) (xs : List X) → faults_among f (map g xs) ≡ faults_among (λ x. f (g x)) xs
+among_map f g [] = refl
+among_map f g (x ∷ xs) = ap (either (f (g x))) (among_map f g xs)
+
+-- ---- in a loop, with the element in hand
+
+pub among_more : {X : Type 0} (f : X → Faults) (xs : List X) (i : ℕ) (x : X) (before found : Faults)
+    → i < length xs → x ≡ get_or xs i x → before ≡ faults_among f (take i xs) → found ≡ f x
+    → either before found ≡ faults_among f (take (i + 1) xs)
+among_more f xs i x before found here item same this =
+    ap (λ b. either b found) same
+    ∙ ap (either (faults_among f (take i xs))) (this ∙ ap f item)
+    ∙ sym (among_push f (take i xs) (get_or xs i x))
+    ∙ ap (faults_among f) (sym (take_more xs i x here))
+
+-- after others
+pub among_after : {X : Type 0} (f : X → Faults) (first : Faults) (xs : List X) (i : ℕ) (x : X) (before found : Faults)
+    → i < length xs → x ≡ get_or xs i x → before ≡ either first (faults_among f (take i xs)) → found ≡ f x
+    → either before found ≡ either first (faults_among f (take (i + 1) xs))
+among_after f first xs i x before found here item same this =
+    ap (λ b. either b found) same
+    ∙ either_assoc first (faults_among f (take i xs)) found
+    ∙ ap (either first) (among_more f xs i x (faults_among f (take i xs)) found here item refl this)
+
+pub among_end : {X : Type 0} (f : X → Faults) (xs whole : List X) (i : ℕ) → length xs ≤ i → xs ≡ whole → faults_among f (take i xs) ≡ faults_among f whole
+among_end f xs whole i done same = ap (faults_among f) (take_all i xs done ∙ same)
+
+-- ---- one of the faults
+
+-- a part of the faults that is reported of each
+pub record IsPart (part : Faults → Bool) : Type 0 where
+  pub none : part no_faults ≡ false
+  pub both : (f g : Faults) → part (either f g) ≡ (part f || part g)
+
+pub part_among : {X : Type 0} (part : Faults → Bool) (f : X → Faults) → IsPart part → (xs : List X) → part (faults_among f xs) ≡ list_any (λ x. part (f x)) xs
+part_among part f told [] = told.none
+part_among part f told (x ∷ xs) =
+    told.both (f x) (faults_among f xs) ∙ ap (λ b. part (f x) || b) (part_among part f told xs)
+
+-- of images, after others
+pub among_front : {X Y : Type 0} (f : Y → Faults) (g : X → Y) (first : Faults) (xs : List X) (i : ℕ) (x : X) (before found : Faults)
+    → i < length xs → x ≡ get_or xs i x → before ≡ either first (faults_among f (map g (take i xs))) → found ≡ f (g x)
+    → either before found ≡ either first (faults_among f (map g (take (i + 1) xs)))
+among_front {X} f g first xs i x before found here item same this =
+    among_after (λ (y : X). f (g y)) first xs i x before found here item (same ∙ ap (either first) (among_map f g (take i xs))) this
+    ∙ ap (either first) (sym (among_map f g (take (i + 1) xs)))

@@ -1,0 +1,38 @@
+-- References by their tables' numbers, in a loop.
+use Rattle.std.proofs.Common.{◌≡◌, ◌≤◌, ◌+◌, ◌++◌, ◌∷◌, ◌&&◌, ◌==◌, ℕ, Bool, true, false, List, [], Some, arith, length, map, refl, take, ap}
+use Rattle.std.proofs.lemmas.Bool.Decides.{nat_tests}
+use Rattle.std.proofs.lemmas.List.{length-map, length-take-le}
+use Rattle.period_core.specs.declared.window.Window.{Window}
+use Rattle.sql_statements.specs.declared.statement.TableReference.{TableReference}
+use Rattle.statement_resolution.specs.SystemWindows.{window_of}
+use Rattle.catalog_core.specs.query.Fitting.{are_in_place}
+use Rattle.statement_resolution.specs.query.Resolving.{ReferenceParts, reference_parts, value_kinds, written_reference}
+use Rattle.catalog_core.specs.table.TableWords.{number_of, table_of_name}
+use Rattle.catalog_core.specs.declared.query.resolved.QueryReference.{QueryReference}
+use Rattle.catalog_core.specs.declared.table.TableDef.{TableDef}
+use Rattle.catalog_core.specs.declared.table.ValueKind.{ValueKind}
+
+pub same_parts : (catalog : List TableDef) (r : TableReference) (number : ℕ) (t : TableDef) (seen : Window) (kinds : List ValueKind)
+    → number_of catalog r.table ≡ Some number → table_of_name catalog r.table ≡ Some t → seen ≡ window_of r.window → kinds ≡ value_kinds t
+    → written_reference catalog r ≡ (Some number, seen, Some kinds)
+same_parts catalog r number t seen kinds numbered there window of_table =
+    rw (numbered, there, window, of_table) refl
+
+-- one more reference, after those that are in their places
+pub placed_more : (place : ℕ) (rs : List QueryReference) (r : QueryReference) → are_in_place place rs ≡ true → r.place ≡ place + length rs → are_in_place place (rs ++ r ∷ []) ≡ true
+placed_more place [] r placed here =
+    let same : (r.place == place) ≡ true = grind (arith, nat_tests) in
+    rw same refl
+placed_more place (x ∷ rs) r placed here =
+    let parts = and_parts (x.place == place) (are_in_place (place + 1) rs) placed in
+    let sum : r.place ≡ (place + 1) + length rs = omega (arith, here) in
+    rw (parts.0) (placed_more (place + 1) rs r parts.1 sum)
+  where
+    and_parts : (a b : Bool) → (a && b) ≡ true → (a ≡ true) × (b ≡ true)
+    and_parts true b e = (refl, e)
+    and_parts false b e = cc
+
+-- as many as were seen
+pub parts_count : {X : Type 0} (f : X → ReferenceParts) (xs : List X) (i : ℕ) (rs : List QueryReference) → i ≤ length xs → map f (take i xs) ≡ map reference_parts rs → length rs ≡ i
+parts_count f xs i rs within same =
+    omega (arith, ap length same, length-map (take i xs) f, length-map rs reference_parts, length-take-le i xs within)

@@ -1,0 +1,7 @@
+use Rattle.std.proofs.Common.{◌≡◌, map, take}
+use Rattle.statement_resolution.specs.query.Places.{place_among, placed_item}
+use Rattle.catalog_core.specs.query.Selection.{item_parts}
+use Rattle.statement_resolution.proofs.query.conversion.convert_items.Given as goal
+
+abbrev pub invariant-loop-item : goal.invariant-loop-item
+invariant-loop-item l = map (placed_item (place_among l.scope.before.now l.scope.seen.now)) (take l.item-index l.items) ≡ map item_parts l.numbered.items

@@ -1,0 +1,11 @@
+use Rattle.std.proofs.Common.{◌∙◌}
+use Rattle.sql_statements.specs.Plain.{plain_condition}
+use Rattle.statement_resolution.proofs.lemmas.stored.StoredNumbers.{tests_placed}
+use Rattle.statement_resolution.proofs.stored.conditions.resolve_stored_where.Goals as goal
+
+pub returns-in_ok-resolve_condition-in-Some : goal.returns-in_ok-resolve_condition-in-Some
+returns-in_ok-resolve_condition-in-Some c =
+    let there = rw c.in-Some.is at c.requires.there in
+    let value = rw c.in-Some.is at c.requires.value in
+    let days = rw c.in-Some.is at c.requires.days in
+    rw c.in-Some.is (tests_placed c.args.table.now (plain_condition c.in-Some.condition) there value days ∙ c.in_ok-resolve_condition-in-Some.ensures)

@@ -1,0 +1,9 @@
+pub mod Limits
+pub mod Faults
+pub mod change
+pub mod query
+pub mod Flaws
+pub mod Positions
+pub mod Placing
+pub mod SystemWindows
+pub mod stored

@@ -1,0 +1,43 @@
+-- For private functions: comparisons by positions, where a name without a position has 0. No
+-- statement that is accepted has such a name.
+use Rattle.std.specs.Prelude.{ℕ, Option, Some, None}
+use Rattle.sql_statements.specs.declared.statement.ColumnReference.{ColumnReference}
+use Rattle.sql_statements.specs.declared.statement.Compare.{Compare}
+use Rattle.sql_statements.specs.declared.statement.Operand.{Operand}
+use Rattle.sql_statements.specs.declared.statement.Operand.TheVariants as operand
+use Rattle.catalog_core.specs.query.Selection.{value_position}
+use Rattle.catalog_core.specs.declared.condition.Comparand.{Comparand}
+use Rattle.catalog_core.specs.declared.condition.Comparand.TheVariants.{Position, Literal}
+use Rattle.catalog_core.specs.declared.condition.CompareValues.{CompareValues}
+use Rattle.catalog_core.specs.declared.table.TableDef.{TableDef}
+
+-- the position, or 0 if there is none
+abbrev pub or_zero : Option ℕ → ℕ
+or_zero None = 0
+or_zero (Some n) = n
+
+-- by the places of columns
+abbrev pub place_side : (ColumnReference → ℕ) → Operand → Comparand
+place_side place (operand.Column r) = Position (place r)
+place_side place (operand.Literal value) = Literal value
+
+-- a comparison by the places of columns
+abbrev pub place_compare : (ColumnReference → ℕ) → Compare → CompareValues
+place_compare place c =
+    record {
+      left = place_side place c.left;
+      comparison = c.comparison;
+      right = place_side place c.right;
+    }
+
+-- in a row of a table
+abbrev pub table_place : TableDef → ColumnReference → ℕ
+table_place t r = or_zero (value_position t r.name)
+
+-- a side in a row of a table
+abbrev pub placed_side : TableDef → Operand → Comparand
+placed_side t side = place_side (table_place t) side
+
+-- a comparison in a row of a table
+abbrev pub placed_compare : TableDef → Compare → CompareValues
+placed_compare t c = place_compare (table_place t) c

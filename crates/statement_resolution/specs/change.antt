@@ -1,0 +1,4 @@
+pub mod Insertion
+pub mod PortionChanges
+pub mod Resolution
+pub mod InsertPlaces

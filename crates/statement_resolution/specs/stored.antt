@@ -1,0 +1,2 @@
+pub mod StoredQueries
+pub mod StoredPlacing

@@ -1,0 +1,32 @@
+//! Statements about the tables of a catalog with positions in place of names, or the
+//! lowest-numbered refusal that applies. The types that a statement becomes are in `catalog_core`,
+//! since the store needs them too. The store does not need this crate, so a changed refusal does
+//! not prove the store anew. What to touch in order to add
+//!
+//! - a form of change or query: its conditions and what it is by positions in the folder of that
+//!   name in `specs/`, and a file beside `change/portion_changes.rt` or `query/resolution.rt`;
+//! - a refusal of a statement: the list of its conditions (`insert_conditions`,
+//!   `update_conditions`, `delete_conditions`, `refusals_of`, `stored_query_conditions`), and the
+//!   function that judges them (`shape_fault`, `value_fault`, `update_fault`, `delete_fault`,
+//!   `Faults::first`, `stored_fault`), both in ascending order; what may be wrong with a part of a
+//!   query, an UPDATE or a DELETE is one of `Faults`; the refusals of CREATE TABLE are in
+//!   `catalog_core`;
+//! - a test of a condition: its faults and its positions in its `Resolver` (`comparison.rt`,
+//!   `stored/conditions.rt`), as `specs/Flaws`, `specs/Positions` and `specs/stored/StoredQueries`
+//!   define them.
+#![tactic(auto)]
+
+mod change;
+mod comparison;
+mod faults;
+mod limits;
+mod positions;
+mod query;
+mod resolver;
+mod stored;
+mod system_window;
+
+pub use change::portion_changes::{resolve_delete, resolve_update};
+pub use change::resolution::{resolve_change, resolve_insert};
+pub use query::resolution::{resolve_query, resolve_sequenced};
+pub use stored::resolution::{resolve_stored, resolve_stored_query};

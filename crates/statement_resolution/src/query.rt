@@ -1,0 +1,13 @@
+//! Sequenced queries: their conditions, and what they are with positions in place of names.
+
+pub mod conversion;
+pub mod query_conversion;
+pub mod query_faults;
+pub mod query_parts;
+pub mod references;
+pub mod resolution;
+pub mod scope;
+pub mod seen;
+pub mod seen_column;
+pub mod select_checks;
+pub mod select_conversion;

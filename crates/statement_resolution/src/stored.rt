@@ -1,0 +1,4 @@
+//! Stored queries: their conditions, and what they are with positions in place of names.
+
+pub mod conditions;
+pub mod resolution;

@@ -1,0 +1,26 @@
+-- Everybody, on each day
+-- name: staff
+VALIDTIME SELECT DISTINCT NUMBER, NAME, DEPT, GRADE, PAY FROM STAFF;
+
+-- Who worked under which manager?
+-- name: managers
+VALIDTIME SELECT DISTINCT S.NUMBER, M.MANAGER FROM STAFF S JOIN MANAGERS M ON S.DEPT = M.DEPT;
+
+-- Who was absent?
+-- name: absent
+VALIDTIME SELECT DISTINCT NUMBER FROM ABSENCES;
+
+-- Who was absent while the department had no manager?
+-- name: unmanaged
+VALIDTIME SELECT DISTINCT S.NUMBER, S.DEPT FROM STAFF S JOIN ABSENCES A ON S.NUMBER = A.NUMBER
+EXCEPT SELECT DISTINCT S.NUMBER, S.DEPT FROM STAFF S JOIN MANAGERS M ON S.DEPT = M.DEPT;
+
+-- Which pay of the first quarter was believed as 30 June ended, and is another one now?
+-- name: believed
+VALIDTIME SELECT DISTINCT B.NUMBER, B.PAY AS BELIEVED, N.PAY AS KNOWN
+ FROM STAFF FOR SYSTEM_TIME AS OF TIMESTAMP '2024-06-30 23:59:59.999999' B
+ JOIN STAFF N ON B.NUMBER = N.NUMBER, QUARTER WHERE B.PAY <> N.PAY;
+
+-- Which department had somebody of grade 5?
+-- name: grade 5
+VALIDTIME SELECT DISTINCT DEPT FROM STAFF WHERE GRADE = 5

@@ -1,0 +1,1 @@
+"""A server of stores: PostgreSQL's protocol (version 3) over one session of `bitemporal_file`."""

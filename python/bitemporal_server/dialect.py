@@ -1,0 +1,294 @@
+"""What drivers write, as tokens of docs/PROFILE.md: parameters ($1), casts ('2024-01-01'::date),
+names in double quotes, E'..', /* */ and !=. All else is left as it is, for the engine to judge."""
+import re
+from typing import Any, Iterator, Optional, Sequence
+
+from bitemporal_tools.explanation import bad_tokens
+from bitemporal_tools.sql.catalog import Catalog
+from bitemporal_tools.sql.lexis import RESERVED, Token
+from bitemporal_tools.sql.parser import Parser
+from bitemporal_tools.sql.reader import NoStatement
+from bitemporal_tools.sql.refusals import Refused
+from bitemporal_tools.sql.scope import Scope
+from bitemporal_tools.sql.script import Statement
+from bitemporal_tools.sql.tree import (And, ColumnReference, Comparison, Delete, Insert, Literal,
+                                       Not, Or, Select, Sequenced, Stored, Update, known_as,
+                                       selects)
+
+from . import values
+from .problems import SYNTAX, Problem
+from .wire import Column
+
+LEXEME = re.compile(
+    r"(?P<white>[\t-\r ]+|--[^\n]*\n?|/\*(?s:.*?)\*/)"
+    r"|(?P<escaped>[eE]'(?:[^'\\]|\\(?s:.)|'')*')"
+    r"|(?P<word>[A-Za-z_][A-Za-z0-9_]*)"
+    r"|(?P<number>[0-9]+)"
+    r"|(?P<text>'[^']*(?:''[^']*)*'(?!'))"
+    r'|"(?P<quoted>\$?[A-Za-z_][A-Za-z0-9_]*)"'
+    r"|\$(?P<parameter>[0-9]+)"
+    r"|::\s*(?:pg_catalog\.)?(?P<cast>\w+)(?:\(\d+\))?(?:\s+without\s+time\s+zone|\s+varying)?"
+    r"|(?P<symbol><>|!=|<=|>=|[(),;.*=<>+-])", re.IGNORECASE)
+CASTS = {'DATE': 'DATE', 'TIMESTAMP': 'TIMESTAMP', **dict.fromkeys(
+    ('INTEGER', 'INT', 'BIGINT', 'SMALLINT', 'INT2', 'INT4', 'INT8'), 'INTEGER'), **dict.fromkeys(
+    ('TEXT', 'VARCHAR', 'CHARACTER', 'NAME'), 'VARCHAR')}
+BEFORE_TABLES = ('FROM', 'INTO', 'UPDATE', 'JOIN', 'TABLE', 'REFERENCES')
+ESCAPES = {'n': '\n', 't': '\t', 'r': '\r', 'b': '\b', 'f': '\f'}
+MOST_BYTES = 4_194_304  # of a script
+
+
+class Hole(Token):
+    """The place of a literal that has a value, or of the parameter of a number."""
+    number: Optional[int]
+    value: values.Value
+
+    def __new__(cls, offset: int, text: str, number: Optional[int], value: values.Value) -> 'Hole':
+        # By the word DATE the grammar takes it for a date if only a date may be.
+        hole = super().__new__(cls, 'hole', text, offset, 'DATE')
+        hole.number, hole.value = number, value
+        return hole
+
+
+def unescaped(text: str) -> str:
+    """The text that E'..' is."""
+    return re.sub(r"\\((?s:.))|''", lambda found: "'" if found[1] is None else
+                  ESCAPES.get(found[1], found[1]), text[2:-1])
+
+
+def lexed(text: str) -> 'list[Token]':
+    """The tokens and holes of a text."""
+    tokens: 'list[Token]' = []
+    offset = 0
+    while offset < len(text):
+        found = LEXEME.match(text, offset)
+        if found is None or found.lastgroup == 'cast' and not casts(tokens, found['cast'].upper()):
+            raise bad_token(text, offset)
+        add_token(tokens, text, found)
+        offset = found.end()
+    return without_schema(tokens) if 'public' in text.lower() else tokens
+
+
+def without_schema(tokens: 'list[Token]') -> 'list[Token]':
+    """Tokens without the `public.` before the name of a table, if the profile has no point."""
+    found: 'list[Token]' = []
+    at = 0
+    while at < len(tokens):
+        words = [token.word for token in tokens[at:at + 4]] + [''] * 3
+        is_schema = words[:2] == ['PUBLIC', '.'] and at + 2 < len(tokens) and \
+            (words[3] == '.' or found and found[-1].word in BEFORE_TABLES)
+        at += 2 if is_schema else 0
+        found.append(tokens[at])
+        at += 1
+    return found
+
+
+def add_token(tokens: 'list[Token]', text: str, found: 're.Match[str]') -> None:
+    """Adds the token of a lexeme, if it is one."""
+    kind, offset = found.lastgroup or '', found.start()
+    if kind == 'quoted' and '$' in found['quoted'] and not (tokens and tokens[0].word == 'SET'):
+        raise bad_token(text, offset)
+    if kind == 'word' or kind == 'quoted' and found['quoted'].upper() not in RESERVED:
+        tokens.append(Token('word', found[0], offset, found[kind].upper()))
+    elif kind == 'quoted':
+        raise bad_token(text, offset)
+    elif kind == 'parameter':
+        before = tokens[-1].word if tokens and tokens[-1].kind == 'word' else None
+        if before in ('DATE', 'TIMESTAMP'):  # DATE $1
+            tokens.pop()
+        tokens.append(Hole(offset, found[0], int(found['parameter']),
+                           values.Value(None, before if before in values.KINDS else None)))
+    elif kind == 'escaped':
+        tokens.append(Hole(offset, found[0], None, values.Value(unescaped(found[0]), None)))
+    elif kind == 'symbol':
+        symbol = '<>' if found[0] == '!=' else found[0]
+        tokens.append(Token(kind, symbol, offset, symbol))
+    elif kind not in ('white', 'cast'):
+        tokens.append(Token(kind, found[0], offset, ''))
+
+
+def casts(tokens: 'list[Token]', name: str) -> bool:
+    """Makes a hole of the literal or the parameter before a cast. Whether that can be done."""
+    last = tokens[-1] if tokens else None
+    if name not in CASTS or last is None:
+        return False
+    number: Optional[int] = None
+    text: Optional[str] = last.text
+    if isinstance(last, Hole):
+        number, text = last.number, last.value.text
+    elif last.kind == 'text':
+        text = last.text[1:-1].replace("''", "'")
+    elif last.kind != 'number':
+        return False
+    tokens[-1] = Hole(last.offset, last.text, number, values.Value(text, CASTS[name]))
+    return True
+
+
+def bad_token(text: str, offset: int) -> Problem:
+    """The refusal of a text for the bytes at an offset, which are no token."""
+    refused = Refused(3, len(text[:offset].encode('utf-8')), offset)
+    lines = bad_tokens.of_script('', text.encode('utf-8'), refused).split('\n')[2:]
+    told = ' '.join(line.strip() for line in lines)
+    cause, _, hint = told.partition(' What to do')
+    return Problem(SYNTAX, '3 BadToken', cause, hint and 'What to do' + hint, offset)
+
+
+class HoleParser(Parser):
+    """The grammar, with holes in the places of literals. `kinds` has the types that the grammar
+    alone tells, by their offsets."""
+
+    def __init__(self, tokens: 'list[Token]') -> None:
+        super().__init__(tokens)
+        self.kinds: 'dict[int, str | None]' = {}
+
+    def hole(self, kind: Optional[str]) -> Optional[Literal]:
+        """A hole at the next token, in the place of a literal of this type."""
+        token = self.tokens[self.at] if self.at < len(self.tokens) else None
+        if not isinstance(token, Hole):
+            return None
+        self.at += 1
+        self.kinds[token.offset] = kind
+        return Literal('', None, token.offset)
+
+    def date(self) -> Literal:
+        return self.hole('DATE') or super().date()
+
+    def moment(self, is_below_forever: bool = False) -> Literal:
+        return self.hole('TIMESTAMP') or super().moment(is_below_forever)
+
+    def literal(self) -> Literal:
+        return self.hole(None) or super().literal()
+
+
+class Prepared:
+    """A statement with holes, over the tables of a catalog: `kinds` are the types of its holes,
+    by offset, and `columns` those of its answer, None if it has none."""
+
+    def __init__(self, text: str, tokens: 'list[Token]', catalog: Catalog) -> None:
+        self.text, self.tokens, self.catalog = text, tokens, catalog
+        self.holes = [token for token in tokens if isinstance(token, Hole)]
+        self.words = [token.word for token in tokens[:4]]
+        self.whole = None if self.holes else Statement(1, tokens)
+        self.tree = self.whole.tree if self.whole else None
+        self.kinds: 'dict[int, str | None]' = {}
+        if self.holes:
+            parser = HoleParser(tokens)
+            try:
+                self.tree = parser.statement()
+                self.kinds = {**parser.kinds, **dict(kinds_of(self.tree, catalog))}
+            except NoStatement:
+                pass
+        self.columns = columns_of(self.tree, catalog)
+
+    def parameters(self, declared: Sequence[int]) -> 'list[int]':
+        """The type numbers of the parameters, of which some may be declared."""
+        count = values.count_of(hole.number or 0 for hole in self.holes)
+        found = [declared[at] if at < len(declared) else 0 for at in range(count)]
+        for hole in self.holes:
+            if hole.number and not found[hole.number - 1]:
+                kind = self.kinds.get(hole.offset) or hole.value.declared or 'VARCHAR'
+                found[hole.number - 1] = values.KINDS[kind].oid
+        return found
+
+    def bound(self, given: Sequence[values.Value]) -> Statement:
+        """The statement with these values of its parameters."""
+        if self.whole:
+            return self.whole
+        tokens: 'list[Token]' = []
+        for token in self.tokens:
+            if not isinstance(token, Hole):
+                tokens.append(token)
+                continue
+            value = token.value
+            if token.number is not None:
+                if not 1 <= token.number <= len(given):
+                    raise Problem('42P02', f'there is no parameter ${token.number}',
+                                  position=token.offset)
+                own = given[token.number - 1]
+                if own.declared in values.AROUND:
+                    raise values.wrong_type(token.number, own.declared)
+                if own.text is None:
+                    raise Problem('23502', f'parameter ${token.number} is NULL',
+                                  'No column holds NULL.',
+                                  f"An open end is DATE '{values.OPEN_END}'.")
+                value = values.Value(own.text, own.declared or value.declared)
+            tokens += values.tokens_of(value, self.kinds.get(token.offset), token.offset)
+        return Statement(1, tokens)
+
+
+def part_of(statement: Statement) -> bytes:
+    """The part of a session that has a statement."""
+    part = ' '.join(token.word or token.text for token in statement.tokens)
+    data = part.encode('utf-8') + b';\n'
+    if len(data) > MOST_BYTES:
+        raise Problem('54000', f'the statement has more than {MOST_BYTES:,} bytes')
+    return data
+
+
+def kinds_of(tree: object, catalog: Catalog) -> 'Iterator[tuple[int, str]]':
+    """The types that columns give to holes, by offset."""
+    if isinstance(tree, Sequenced):
+        for select in selects(tree.query):
+            scope = Scope([(known_as(reference), catalog.tables[reference.table])
+                           for reference in select.references if reference.table in catalog.tables])
+            for condition in [select.where, *(on.condition for on in select.ons)]:
+                yield from kinds_of_condition(condition, scope)
+        return
+    table = catalog.tables.get(getattr(tree, 'table', ''))
+    if table is None:
+        return
+    if isinstance(tree, Insert):
+        names = tree.columns or [column.name for column in table.given]
+        for row in tree.rows:
+            for name, literal in zip(names, row.values):
+                if not literal.kind and name in table.by_name:
+                    yield literal.offset, table.by_name[name].kind
+    if isinstance(tree, Update):
+        for name, literal in tree.sets:
+            if not literal.kind and name in table.by_name:
+                yield literal.offset, table.by_name[name].kind
+    if isinstance(tree, (Update, Delete, Stored)):
+        yield from kinds_of_condition(tree.where, Scope([(table.name, table)]))
+
+
+def kinds_of_condition(condition: object, scope: Scope) -> 'Iterator[tuple[int, str]]':
+    """The types that the columns of comparisons give to holes."""
+    if isinstance(condition, (And, Or)):
+        for inner in condition.conditions:
+            yield from kinds_of_condition(inner, scope)
+    elif isinstance(condition, Not):
+        yield from kinds_of_condition(condition.condition, scope)
+    elif isinstance(condition, Comparison):
+        for side, other in ((condition.left, condition.right), (condition.right, condition.left)):
+            kind = scope.kind(other) if isinstance(other, ColumnReference) else None
+            if isinstance(side, Literal) and not side.kind and kind:
+                yield side.offset, kind
+
+
+def columns_of(tree: object, catalog: Catalog) -> 'list[Column] | None':
+    """The columns of the answer of a query, None if it has none, or names an unknown one."""
+    if isinstance(tree, Stored) and tree.table in catalog.tables:
+        return [values.column(column.name, values.KINDS[column.kind], column.number)
+                for column in catalog.tables[tree.table].columns]
+    if not isinstance(tree, Sequenced):
+        return None
+    select = tree.query
+    while not isinstance(select, Select):
+        select = select.first
+    columns = [column_of(item, select, catalog) for item in select.items]
+    found = [column for column in columns if column is not None]
+    if len(found) < len(columns):
+        return None
+    return found + [values.column(name, values.DATE)
+                    for name in ('valid_from', 'valid_to', 'held', 'absent')]
+
+
+def column_of(item: Any, select: Select, catalog: Catalog) -> Optional[Column]:
+    """The column of an item of a select list."""
+    for reference in select.references:
+        table = catalog.tables.get(reference.table)
+        if table and item.column.qualifier in (None, known_as(reference)) and \
+                item.column.name in table.by_name:
+            found = table.by_name[item.column.name]
+            return values.column(item.new_name or item.column.name, values.KINDS[found.kind],
+                                 found.number)
+    return None

@@ -1,0 +1,97 @@
+"""The rows of an answer, with days as numbers.
+
+A stored query is taken too, if it shows what was known at one moment: then no key has two rows
+on one day.
+"""
+import dataclasses
+from collections.abc import Sequence
+from typing import NamedTuple, Optional
+
+from bitemporal_tools.reports.answer_tables import title_and_name
+from bitemporal_tools.command_line import Fault
+from bitemporal_tools.days.numbers import ordinal
+from bitemporal_tools.days.stretches import within
+from bitemporal_tools.days.windows import Window
+from bitemporal_tools.reports.report import Answer, Statement, Versions
+
+Values = tuple[str, ...]
+
+
+class DayRow(NamedTuple):
+    """Values that hold from day `start` on, and no longer on day `end`."""
+    values: Values
+    start: int
+    end: int
+
+
+@dataclasses.dataclass
+class DayTable:
+    """What a statement answered. `columns` are those of the values, and `kinds` their types, as far
+    as they are known."""
+    number: int
+    title: str
+    name: str
+    columns: list[str]
+    kinds: list[str]
+    rows: list[DayRow]
+
+    def place(self, column: str) -> int:
+        """The place of a column among the values."""
+        name = column.strip().upper()
+        if name not in self.columns:
+            raise Fault(f'answer {self.name} has no column {column.strip()}'
+                        f' (it has {", ".join(self.columns)})')
+        return self.columns.index(name)
+
+    def kinds_at(self, places: Sequence[int], *more: str) -> list[str]:
+        """The types in some places and then more; none if they aren't known."""
+        return [*picked(self.kinds, places), *more] if self.kinds else []
+
+    def within(self, window: Optional[Window]) -> 'DayTable':
+        """The rows on the days of a window alone."""
+        if window is None:
+            return self
+        return dataclasses.replace(self, rows=[
+            DayRow(row.values, *period) for row in self.rows
+            for period in within((row.start, row.end), window.period)])
+
+    def places(self, columns: str) -> list[int]:
+        """The places of columns with commas between them."""
+        return [self.place(column) for column in columns.split(',') if column.strip()]
+
+    def numbers(self, place: int) -> list[int]:
+        """The cells of a column as whole numbers."""
+        try:
+            return [int(row.values[place]) for row in self.rows]
+        except ValueError:
+            raise Fault(f'column {self.columns[place]} of answer {self.name} has texts or dates,'
+                        ' and no numbers') from None
+
+
+def picked(values: Sequence[str], places: Sequence[int]) -> Values:
+    return tuple(values[place] for place in places)
+
+
+def day_table(statement: Statement) -> DayTable:
+    """The table of a statement that answered."""
+    title, name = title_and_name(statement)
+    outcome = statement.outcome
+    if isinstance(outcome, Answer):
+        rows = [DayRow(row.values, ordinal(row.start), ordinal(row.end)) for row in outcome.rows]
+        return DayTable(statement.number, title, name, list(outcome.names), list(outcome.kinds),
+                        rows)
+    return DayTable(statement.number, title, name, list(outcome.table.value_names),
+                    [column.kind for column in outcome.table.values],
+                    version_rows(statement, outcome))
+
+
+def version_rows(statement: Statement, outcome: Versions) -> list[DayRow]:
+    window = statement.tree.window
+    if window is not None and window.kind != 'AS OF':
+        raise Fault(f'statement {statement.number} shows what was known at several moments, so it'
+                    ' may have two rows for a day: ask by AS OF, or without a window')
+    table, names = outcome.table, outcome.names
+    places = [names.index(name) for name in table.value_names]
+    start, end = names.index(table.period.start), names.index(table.period.end)
+    return [DayRow(picked(row, places), ordinal(row[start]), ordinal(row[end]))
+            for row in outcome.rows]

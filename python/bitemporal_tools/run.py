@@ -1,0 +1,159 @@
+"""Runs a script: its report goes to standard output, what is to be said of it to standard error.
+
+    tools/run [--stop] [--audit] [--store STORE] [FILE]
+
+Standard error gets the explanation of each refused statement, and notes on others, as tools/explain
+has them, and then a last line such as
+
+    bitemporal: 12 statements, 1 refused, 5 answers, 5 audits agree
+
+Answers are those of sequenced and of stored queries. Without --audit nothing is said of audits.
+
+    --stop         ends at the first refused statement: no statement after it is in the report, or
+                   does anything
+    --store STORE  runs the script by `bitemporal_file` over the store in the file STORE
+    --audit        is passed on to the program, as each other word is that begins with -
+
+Without FILE, or if it is -, standard input is read. The exit status is that of `bitemporal run`:
+0, or 1 if a statement was refused, 2 if the script or the command line was, and 3 if an
+audit did not agree. It is 2 too if FILE cannot be read; a line says which and why.
+"""
+import argparse
+import io
+import os
+import subprocess
+import sys
+import tempfile
+from collections.abc import Iterable, Sequence
+from typing import Optional
+
+from bitemporal_tools import command_line, program
+from bitemporal_tools.command_line import Fault, counted
+from bitemporal_tools.explanation.explaining import Explanation
+from bitemporal_tools.reports.listing import catalog_of
+from bitemporal_tools.reports.records import records
+from bitemporal_tools.reports.report import NotOfScript
+from bitemporal_tools.sql.catalog import Catalog
+from bitemporal_tools.sql.lexis import decoded, lexed, pieces
+
+
+def printed(called: str, words: Sequence[str], given: bytes) -> tuple[int, bytes]:
+    """The status and the output of the program by one of its two names. Standard error is its
+    own."""
+    path = program.path(called)
+    try:
+        run = subprocess.run([called, *words], executable=path, input=given,
+                             stdout=subprocess.PIPE, check=False)
+    except OSError as error:
+        raise Fault(f'cannot run {path}: {error.strerror}') from None
+    return run.returncode, run.stdout
+
+
+def tables_of(store: str) -> Catalog:
+    """The tables and the clock of a store, of which there may be no file yet."""
+    if not os.path.lexists(store):
+        return Catalog()
+    status, listed = printed('bitemporal_file', [store, '--tables'], b'')
+    if status:
+        sys.exit(status)
+    return catalog_of(listed.decode('utf-8'))
+
+
+class Run:
+    """A script, given as bytes, with its report. `count` is how many statements it has; those that
+    were not run for the sake of --stop are cut off."""
+
+    def __init__(self, name: str, script: bytes, options: argparse.Namespace,
+                 words: Sequence[str]) -> None:
+        self.name, self.script = name, script
+        self.count: Optional[int] = None
+        self.catalog = tables_of(options.store) if options.store else Catalog()
+        if options.store:
+            words = [options.store, *words, *['--stop'] * options.stop]
+            # As a file: a script on standard input may be run statement by statement.
+            with tempfile.NamedTemporaryFile(suffix='.sql') as file:
+                file.write(script)
+                file.flush()
+                self.status, self.report = printed('bitemporal_file', [*words, file.name], b'')
+        else:
+            self.words = ['run', *words]
+            self.status, self.report = printed('bitemporal', self.words, script)
+        if options.store and options.stop and self.report:
+            *_, last = records(self.report.decode('utf-8'))
+            self.cut(int(last[1]))
+
+    def cut(self, number: int) -> None:
+        """Leaves the statements up to this number."""
+        text = decoded(self.script)
+        found = list(pieces(lexed(text)))
+        self.count = len(found)
+        self.script = text[:found[number - 1][-1].end].encode('utf-8')
+
+    def explanation(self) -> Explanation:
+        return Explanation(self.name, self.script, self.report.decode('utf-8'), self.catalog)
+
+    def stop(self, number: int) -> None:
+        """Runs the statements up to this number alone, of a run without a store."""
+        self.cut(number)
+        self.status, self.report = printed('bitemporal', self.words, self.script)
+
+
+def last_line(explanation: Explanation, count: int) -> str:
+    """How many statements were run, refused and answered, and of audits how many agree."""
+    if explanation.texts and not explanation.statements:
+        return 'bitemporal: the whole script is refused'
+    kinds = [record[0] for record in explanation.records]
+    statements, audits = len(explanation.statements), kinds.count('audit')
+    parts = [counted(statements, 'statement') if statements == count else
+             f'{statements} of {counted(count, "statement")}',
+             f'{len(explanation.refusals)} refused',
+             counted(kinds.count('answer') + kinds.count('versions'), 'answer')]
+    if audits:
+        agree = sum(record[0] == 'audit' and record[2] == 'agrees'
+                    for record in explanation.records)
+        parts.append(f'{counted(audits, "audit")} agree{"s" * (audits == 1)}' if agree == audits
+                     else f'{agree} of {counted(audits, "audit")} agree')
+    return f'bitemporal: {", ".join(parts)}'
+
+
+def written(report: bytes) -> list[str]:
+    """Writes the report, and gives the lines about what went wrong there."""
+    try:
+        sys.stdout.buffer.write(report)
+        sys.stdout.buffer.flush()
+    except OSError as error:
+        os.dup2(os.open(os.devnull, os.O_WRONLY), sys.stdout.fileno())
+        return [f'run: cannot write the report: {error.strerror}']
+    return []
+
+
+def tell(lines: Iterable[str]) -> None:
+    """Reports them on standard error. If that takes nothing, the status still says it."""
+    if isinstance(sys.stderr, io.TextIOWrapper):
+        sys.stderr.reconfigure(encoding='utf-8', errors='backslashreplace')
+    try:
+        print(*lines, sep='\n', file=sys.stderr, flush=True)
+    except OSError:
+        os.dup2(os.open(os.devnull, os.O_WRONLY), sys.stderr.fileno())
+
+
+def main(arguments: Sequence[str]) -> int:
+    parser = command_line.parser('run', __doc__)
+    parser.add_argument('file', metavar='FILE', nargs='?', default='-')
+    parser.add_argument('--stop', action='store_true')
+    parser.add_argument('--store', metavar='STORE')
+    options, words = parser.parse_known_args(arguments)
+    name = 'standard input' if options.file == '-' else options.file
+    run = Run(name, command_line.read_bytes(options.file), options, words)
+    try:
+        explanation = run.explanation()
+        if options.stop and explanation.refusals and not options.store:
+            run.stop(explanation.refusals[0].statement.number)
+            explanation = run.explanation()
+        said = [*(f'{text}\n' for text in explanation.texts + explanation.notes),
+                last_line(explanation, run.count or len(explanation.statements))]
+    except NotOfScript:  # memory was refused outside the statements, or the command line is wrong
+        said = ['bitemporal: there is no whole report']
+    wrong = written(run.report)
+    tell([*said, *wrong])
+    return 2 if wrong else run.status

@@ -1,0 +1,30 @@
+-- Conditions that fix the first columns of a key show, join and change the rows of the keys that begin so
+-- and no others. The key's columns are in another order than the table's, and of the texts 'ab' comes next
+-- after 'a'. In 6 and 9 they do not fix the first column.
+CREATE TABLE T (N INTEGER, V VARCHAR(5), K INTEGER, X INTEGER, S DATE, E DATE,
+ SS TIMESTAMP GENERATED ALWAYS AS ROW START, SE TIMESTAMP GENERATED ALWAYS AS ROW END,
+ PERIOD FOR P (S, E), PERIOD FOR SYSTEM_TIME (SS, SE),
+ PRIMARY KEY (V, K, N, P WITHOUT OVERLAPS)) WITH SYSTEM VERSIONING;
+AT TIMESTAMP '2024-01-01 00:00:00';
+INSERT INTO T VALUES
+ (1, 'a', -1, 10, DATE '2024-01-01', DATE '2024-02-01'),
+ (2, 'a', -1, 20, DATE '2024-01-01', DATE '2024-02-01'),
+ (1, 'a', 0, 30, DATE '2024-01-01', DATE '2024-02-01'),
+ (1, 'ab', -1, 40, DATE '2024-01-01', DATE '2024-02-01'),
+ (1, 'A', -1, 50, DATE '2024-01-01', DATE '2024-02-01'),
+ (1, 'b', 0, 60, DATE '2024-01-01', DATE '2024-02-01');
+SELECT * FROM T WHERE V = 'a';
+SELECT * FROM T WHERE 'a' = V AND K = -1;
+SELECT * FROM T WHERE K = -1 AND N = 1;
+SELECT * FROM T WHERE V = 'a' AND N = 1;
+SELECT * FROM T WHERE V = 'aa';
+SELECT * FROM T WHERE V = 'b' OR V = 'a' AND K = 0;
+VALIDTIME SELECT DISTINCT N, X FROM T WHERE V = 'a' AND K = -1;
+VALIDTIME SELECT DISTINCT A.X, B.X AS Y FROM T AS A JOIN T AS B ON B.V = A.V WHERE A.V = 'a' AND A.K = 0;
+AT TIMESTAMP '2024-01-02 00:00:00';
+UPDATE T FOR PORTION OF P FROM DATE '2024-01-10' TO DATE '2024-01-20' SET X = 0 WHERE V = 'a' AND K = -1;
+SELECT * FROM T WHERE V = 'a' AND K = -1;
+DELETE FROM T WHERE V = 'a';
+SELECT * FROM T;
+SELECT * FROM T FOR SYSTEM_TIME AS OF TIMESTAMP '2024-01-01 00:00:00' WHERE V = 'a' AND K = -1;
+DELETE FROM T WHERE V = 'a';
