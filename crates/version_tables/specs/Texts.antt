@@ -131,10 +131,9 @@ meta_rows_text = codes "SELECT id, form, clock FROM bt_meta ORDER BY id"
 abbrev pub table_rows_text : List ℕ
 table_rows_text = codes "SELECT id, def FROM bt_table ORDER BY id"
 
--- all versions of all tables, by their keys
+-- all versions of all tables, in no order that is asked for
 abbrev pub version_rows_text : List ℕ
-version_rows_text =
-    codes "SELECT tab, vals, s, e, ss, se FROM bt_version ORDER BY tab, vals, s, ss"
+version_rows_text = codes "SELECT tab, vals, s, e, ss, se FROM bt_version"
 
 -- the numbers of all versions, in order
 abbrev pub rowids_text : List ℕ

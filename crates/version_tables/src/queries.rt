@@ -114,10 +114,8 @@ pub fn version_rows<S: Alter>(connection: &mut Connection<S>) -> Result<Vec<Row>
 {
     // For the proof alone: whether a transaction is open is known by this call.
     let _settled = connection.is_autocommit();
-    connection.query_all(
-        "SELECT tab, vals, s, e, ss, se FROM bt_version ORDER BY tab, vals, s, ss",
-        &[],
-    )
+    // By no order: in that of the key each row would be looked up by its index entry.
+    connection.query_all("SELECT tab, vals, s, e, ss, se FROM bt_version", &[])
 }
 
 /// The rowids of bt_version, by themselves.
