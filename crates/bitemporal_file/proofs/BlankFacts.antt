@@ -44,7 +44,7 @@ all_blank-parts place (byte ∷ bytes) =
     ap (λ b. is_blank_at place byte && b) (all_blank-parts (place_after place byte) bytes)
     ∙ and_assoc (is_blank_at place byte) (are_blank_from (place_after place byte) bytes) (is_rest (place_after_all (place_after place byte) bytes))
 
--- a comment goes to the end of its line
+-- a comment ends with its line
 comment-ends : (bytes : List ℕ) → is_all_blank InComment bytes ≡ is_all_blank Outside (drop (length (take_through line_feed bytes)) bytes)
 comment-ends [] = refl
 comment-ends (byte ∷ bytes) = elim (cases_Bool (byte == line_feed)) [

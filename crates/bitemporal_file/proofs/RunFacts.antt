@@ -254,7 +254,7 @@ module _ {K : Type 0} where
   pub one_ran : (run : ScriptRun K) (ended : Result Bool RunFault) (fault : Option RunFault) → (fault ≡ None → ended ≢ Ok false → run.is_whole ≡ true) → AreRun (run ∷ []) ended fault
   one_ran run ended fault whole = record { before = tt; last = λ quiet on. All-cons (IsWhole {K = K}) run [] (whole quiet on) (All-nil (IsWhole {K = K})) }
 
-  -- others after those that came to their ends
+  -- more runs after runs that came to their ends
   pub more_ran : (runs more : List (ScriptRun K)) (ended : Result Bool RunFault) (fault : Option RunFault) → All IsWhole runs → AreRun more ended fault → AreRun (runs ++ more) ended fault
   more_ran runs more ended fault wholes after = record {
     before = all_but_last-append (IsWhole {K = K}) runs more wholes after.before;

@@ -64,7 +64,7 @@ all-read P (Some xs) (Some ys) (Some zs) all first last end holds =
     let whole : xs ≡ all = first ∙ ap (λ (rest : List ℕ). all ++ rest) none ∙ append-nil all in
     subst P (sym whole) holds
 
--- the part that is kept
+-- the part that is in memory
 pub part-kept : (starts : Bool) (bytes : List ℕ) (left : Option (List ℕ)) (part : Part) → IsPart starts bytes left part → IsPartOf bytes part
 part-kept starts bytes left (Whole kept) is = is.2
 part-kept starts bytes left (TooLarge count) is = is.2

@@ -27,7 +27,7 @@ plain_rows : (table : ℕ) (rows : List VersionRow) → map plain_of (map (versi
 plain_rows table [] = refl
 plain_rows table (row ∷ rows) = ap (λ vs. plain_version row ∷ vs) (plain_rows table rows)
 
--- the rows of a table of these contents are, in whatever order, the versions that the history leaves of it
+-- the rows of a table of the contents are, in whatever order, the versions that the history leaves of it
 rows-left : {S : Type 0} (g : Ghosts S) (history : History) (engine : EngineState S) (stands : EngineRepresents g history engine) (table : ℕ) (rows : List VersionRow) → AreRowsOf stands.contents table rows
     → IsPermutation (map plain_version rows) (versions_of history table)
 rows-left g history engine stands table rows are =

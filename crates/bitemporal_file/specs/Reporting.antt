@@ -54,7 +54,7 @@ pub record ReceivesResult {W K : Type 0} (contents : W → Option (List ℕ)) (t
   pub written : new.fault ≡ None
       → Appends (contents old.out) (contents new.out) (text old.next kept)
       × (new.next ≡ old.next + 1)
-  -- the run goes on if there is no fault, and with --stop only after a statement that has status 0
+  -- the run continues if there is no fault, and with --stop only if the statement has status 0
   pub on : goes_on ≡ true
       → (new.fault ≡ old.fault) × (old.stops ≡ true → status kept ≡ 0)
   pub off : goes_on ≡ false → old.fault ≡ None

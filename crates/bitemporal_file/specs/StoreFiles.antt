@@ -71,7 +71,7 @@ IsLeftAs {D} {g} (Closed files) connection = IsInFiles {D = D} {g = g} (Closed f
 IsLeftAs (Unclosed left) connection = IsClosed connection left
 IsLeftAs _ connection = ⊥
 
--- as what a failure of the database library is told that comes as a connection is closed
+-- the fault of a run for an error of the database library while a connection is closed
 abbrev pub fault_for_closing : Error → RunFault
 fault_for_closing (SqliteFailure OutOfMemory) = Memory
 fault_for_closing _ = Script Store
@@ -95,7 +95,7 @@ pub record Filing (S : Type 0) : Type 1 where
   -- the files were not closed, for this cause
   pub Unclosed : Held S → RunFault → Type 0
 
--- the fault is the one that ended what was done over the connection, or else that of closing it
+-- the fault is the one that ended the work over the connection, or else the fault of closing it
 abbrev pub IsItsFault : {T : Type 0} → (RunFault → Type 0) → Result T RunFault → RunFault → Type 0
 IsItsFault IsOfClosing (Err cause) fault = cause ≡ fault
 IsItsFault IsOfClosing (Ok value) fault = IsOfClosing fault

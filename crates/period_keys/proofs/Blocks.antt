@@ -66,7 +66,7 @@ pub wider_with :
 wider_with start end low high items all item before after lies within is =
     subst (All (LiesBetween low high)) (sym is) (All-append (LiesBetween low high) items (item ∷ []) (wider start end low high items before after within) (All-cons (LiesBetween low high) item [] lies (λ k d below. absurd (omega arith))))
 
--- of the elements of a list with one gone, the others exist
+-- an element of a list is the one that is removed, or one of the rest
 pub others_left : {X : Type 0} (xs left : List X) (gone x : X) → IsPermutation xs (gone ∷ left) → Contains xs x → (x ≡ gone) ⊎ Contains left x
 others_left xs left gone x moved there = elim (Contains-cons_cases gone left x (Contains-permutation xs (gone ∷ left) x moved there)) [ inl same ↦ inl (sym same) | inr rest ↦ inr rest ]
 

@@ -290,6 +290,6 @@ reached_all conditions place n places reached whole other = (reached.said other,
         let one = there known before in
         reached.closed one.0 known p (omega (arith, whole, one.1)) one.2 says
 
--- there are no more places than conditions, beside the first
+-- the number of places is at most one more than the number of conditions
 pub few_places : (conditions : List (code.Tree CompareValues)) (places : List ℕ) → AreFew conditions places → length places ≤ length conditions + 1
 few_places conditions places few = omega (arith, few, count_by-le-length (sides_of places) conditions)

@@ -1,4 +1,4 @@
--- The least faulty days of a plan, by the rows that stand after it.
+-- The least faulty days of a plan, by the rows after it.
 use Rattle.std.proofs.Common.{◌≡◌, ◌==◌, ◌++◌, ℕ, ℤ, Bool, true, false, List, Some, ap, arith, cond, map, not, refl, subst, sym}
 use Rattle.std.specs.Prelude.{IsPermutation, Option, filter}
 use Rattle.std.proofs.lemmas.List.{map-append}

@@ -68,7 +68,7 @@ first_of periods child day found held from alone there none =
     by_lt_z {P = IsLeastOf (IsGap periods child) found} day child.end (λ less. subst (IsLeastOf (IsGap periods child)) (sym (there less)) (gap_at periods child day held from less (alone less)))
     (λ past. subst (IsLeastOf (IsGap periods child)) (sym (none past)) (no_gap periods child day held past))
 
--- with that of one child more
+-- the least day of the old ones and of the gaps of one more child
 pub first_of_more : (Old : ℤ → Type 0) (periods : List Period) (child : Period) (found new : Option ℤ) (day until : ℤ) → IsLeastOf Old found → IsHeldTo periods child day → child.start ≤ℤ day
     → (day <ℤ until → IsHeld periods day → ⊥) → until ≤ℤ child.end → IfSome found (λ other. until ≤ℤ other) → (until ≡ child.end) ⊎ (found ≡ Some until)
     → (day <ℤ until → new ≡ Some day) → (until ≤ℤ day → new ≡ found) → IsLeastOf (λ other. Old other ⊎ IsGap periods child other) new

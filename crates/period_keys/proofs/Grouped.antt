@@ -1,4 +1,4 @@
--- The rows of groups: after a write at one key, with a group more, with one less, and those of a key.
+-- The rows of groups: after a write at one key, with a group more or less, and the rows of a key.
 use Rattle.std.proofs.Common.{◌≡◌, ◌++◌, ◌∷◌, [], ◌∙◌, ℕ, Bool, true, false, cond, Some, None, List, inl, inr, refl, sym, ap, subst, append_assoc, append-nil}
 use Rattle.std.specs.Prelude.{◌⊎◌, Option, Contains, IsPermutation, filter, unwrap_or}
 use Rattle.std.specs.Bool.{OnFalse, OnTrue}
@@ -158,7 +158,7 @@ found_rows positions key (e ∷ es) distinct keyed =
         ∙ append-nil (rows_in e.1)
     by_test rest false other = rest
 
--- of groups, those of a key are what a look-up finds
+-- a look-up of a key finds the key's group
 pub group_of_key : (positions : List ℕ) (key : List Value) (groups : BTreeMap (List Value) KeyRows) → AreGrouped positions groups
     → filter (is_of_key positions key) (rows_of_groups groups.entries) ≡ option_map_or rows_in (get values_cmp groups key) []
 group_of_key positions key groups grouped =

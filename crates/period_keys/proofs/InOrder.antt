@@ -62,7 +62,7 @@ insert_in_order xs i x inside order before after = λ j k d lt below.
     go j k d lt below (After _ _ n p up) (New _ _ q) = absurd (omega arith)
     go j k d lt below (After _ _ n p up) (After _ _ m q from) = both _ _ _ _ (at_after d j n p up) (at_after d k m q from) (order n m d (omega arith) (omega arith))
 
--- the element that is inserted, and the others
+-- an insertion adds its element to the elements of the list
 pub inserted : {X : Type 0} (xs : List X) (i : ℕ) (x : X) → IsPermutation (insert xs i x) (xs ++ x ∷ [])
 inserted xs i x =
     IsPermutation-trans (insert xs i x) (x ∷ xs) (xs ++ x ∷ [])

@@ -1,4 +1,4 @@
--- Worked rows of lawful changes: an INSERT of a row that is there clashes with it, and so do two rows that an UPDATE makes equal; a row that an UPDATE leaves with its key does not clash with itself.
+-- Worked rows of lawful changes: an INSERT of a row of the table clashes with it, and so do two rows that an UPDATE makes equal; a row that an UPDATE leaves with its key does not clash with itself.
 use Rattle.std.proofs.Common.{◌≡◌, ◌∷◌, [], ℕ, ℤ, pos, None, List, refl, sym, ap, subst}
 use Rattle.std.specs.Prelude.{Contains}
 use Rattle.period_core.specs.declared.value.Value.{Value}

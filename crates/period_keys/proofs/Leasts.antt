@@ -1,4 +1,4 @@
--- The least of days: of those of either kind, and of the same days.
+-- The least of days: of the days of either kind, and of equal sets of days.
 use Rattle.std.proofs.Common.{◌≡◌, ◌↔◌, ◌⊎◌, ◌≤ℤ◌, ◌<ℤ◌, ◌<◌, ◌+◌, ◌++◌, ◌∷◌, [], ◌∙◌, ℕ, ℤ, List, length, take, get_or, Option, Some, None, sym, ap, subst, inl, inr, arith}
 use Rattle.std.proofs.lemmas.Int.{ints, by_lt_z}
 use Rattle.std.specs.Prelude.{IfOk, Result, Ok, Err, int_lt, if◌then◌else◌}
@@ -71,7 +71,7 @@ least_one_more {X} P xs x found more new so_far one new_is =
     let Q : ℤ → Type 0 = λ day. Any (λ y. P y day) xs ⊎ P x day in
     least_with_one P xs x new (subst (IsLeastOf Q) (sym new_is) (IsLeastOf-either (λ day. Any (λ y. P y day) xs) (P x) found more so_far one))
 
--- a loop's step: the least of what the first elements give, with that of the next
+-- a loop's step: the least day of the first elements' days, and of the next one's
 pub least_more : {X : Type 0} (P : X → ℤ → Type 0) (xs : List X) (i : ℕ) (x : X) (found more new : Option ℤ) → i < length xs → x ≡ get_or xs i x
     → IsLeastOf (λ day. Any (λ y. P y day) (take i xs)) found → IsLeastOf (P x) more → new ≡ earlier found more
     → IsLeastOf (λ day. Any (λ y. P y day) (take (i + 1) xs)) new

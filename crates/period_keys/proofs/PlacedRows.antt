@@ -24,7 +24,7 @@ some : {X : Type 0} (xs : List X) → 0 < length xs → X
 some [] more = absurd (omega (arith, more))
 some (x ∷ xs) more = x
 
--- elements from a place on that fail the test are not kept
+-- elements from a place on that fail the test are dropped
 kept_to : {X : Type 0} (test : X → Bool) (xs : List X) (n m : ℕ) → n + m ≤ length xs → ((j : ℕ) (d : X) → n ≤ j → j < n + m → test (get_or xs j d) ≡ false) → filter test (take (n + m) xs) ≡ filter test (take n xs)
 kept_to test xs n zero within fails = ap (λ k. filter test (take k xs)) (let e : n + 0 ≡ n = omega arith in e)
 kept_to {X} test xs n (suc m) within fails =
@@ -128,7 +128,7 @@ front [] ys k d below = absurd (omega (arith, below))
 front (x ∷ xs) ys zero d below = refl
 front (x ∷ xs) ys (suc k) d below = front xs ys k d (omega (arith, below))
 
--- one row more, after the others
+-- one row more at the end
 pub placed_next : (rows before : List VersionRow) (row : VersionRow) (old new : PeriodBlocks) → rows ≡ before ++ row ∷ [] → ArePlaced before old → ((x : PlacedPeriod) → HasPlaced old x → HasPlaced new x)
     → HasPlaced new (record { period = row.period; place = length before }) → ArePlaced rows new
 placed_next rows before row old new is placed kept there =

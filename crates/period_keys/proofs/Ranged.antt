@@ -184,7 +184,7 @@ module _ (range : KeyRange) where
   abbrev pub is_from : List Value × KeyRows → Bool
   is_from group = range_contains values_cmp (bound.Included (first_values range)) bound.Unbounded group.0
 
-  -- the first of these groups, if there is one, is neither in the range nor passed over
+  -- the first of the groups, if there is one, is neither in the range nor passed over
   abbrev pub StopsAt : Entries → Type 0
   StopsAt [] = ⊤
   StopsAt (group ∷ groups) = (is_in group ≡ false) × (is_passed_over range group.0 ≡ false)
@@ -201,7 +201,7 @@ module _ (range : KeyRange) where
   in_from group is = (let its = parts group is in
       ap (λ (b : Bool). b && true) (not_before range.leading.items range.lower group.0 its.0 its.1))
 
-  -- behind a group that is not before the first values, and neither in the range nor passed over, none is in the range
+  -- after a group that is not before the first values, and neither in the range nor passed over, none is in the range
   none_behind : (first group : List Value × KeyRows) → is_from first ≡ true → is_in first ≡ false → is_passed_over range first.0 ≡ false → values_cmp first.0 group.0 ≡ Less → is_in group ≡ true → ⊥
   none_behind first group from out over less is =
       let its = parts group is in
@@ -230,7 +230,7 @@ module _ (range : KeyRange) where
       by_test true rest = (all.0, rest)
       by_test false rest = rest
 
-  -- of ordered groups that are not before the first values, those behind one are after it
+  -- in an ordered list from the first values on, the groups after a group have later keys
   ordered_behind : (groups seen : Entries) (group : List Value × KeyRows) (rest : Entries) → IsStrictlySortedBy values_cmp (keys_of groups) → filter is_from groups ≡ seen ++ group ∷ rest → AllByRecursion (λ (key : List Value). values_cmp group.0 key ≡ Less) (keys_of rest)
   unfolding IsStrictlySortedBy
   ordered_behind [] [] group rest ordered split = absurd cc

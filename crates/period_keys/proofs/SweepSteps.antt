@@ -49,7 +49,7 @@ below_more rows n day = (
   ],
 )
 
--- an earlier entry of the next one's values has those of the one that ends latest
+-- an earlier entry with the values of the next one has the values of the entry that ends latest
 same_run : (rows : List PeriodRow) (n latest i : ℕ) (d : PeriodRow) → AllPairs NotAfter rows → n < length rows → (get_or rows latest d).values ≡ (get_or rows (n - 1) d).values → i < n → (get_or rows i d).values ≡ (get_or rows n d).values → (get_or rows i d).values ≡ (get_or rows latest d).values
 same_run rows n latest i d order below last lt same =
     elim (cases_lt i (n - 1)) [

@@ -1,4 +1,4 @@
--- The number of days that an audit gives is that of the rows that the query's references see: it is the same in each audit.
+-- Each audit of an answer gives one number of days: the number of the rows that the query's references see.
 use Rattle.std.proofs.Common.{◌≡◌, ◌∷◌, ◌<ℤ◌, ◌∙◌, ℤ, List, [], ap, arith, inl, inr, length, map, refl, suc, subst, sym}
 use Rattle.std.specs.List.{AllPairs, Contains}
 use Rattle.std.specs.List.Sorted.{IsPermutation}

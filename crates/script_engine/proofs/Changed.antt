@@ -61,7 +61,7 @@ accepts_change history new (statement.update u) outcome is changes = changes
 accepts_change history new (statement.delete d) outcome is changes = changes
 accepts_change history new _ outcome is changes = absurd is
 
--- the table of a change is there
+-- the table of a change exists
 pub resolved_table : (tables : List TableDef) (s : Statement) (change : Change) → ResolvesChange tables s change → (d : TableDef) × (table_of tables change.table ≡ Some d)
 resolved_table tables (statement.insert i) change resolved = (resolved.definition, resolved.table)
 resolved_table tables (statement.update u) change resolved = (resolved.definition, resolved.table)
@@ -76,7 +76,7 @@ all_of_second P (x ∷ xs) ys all = all_of_second P xs ys all.1
 -- ---- steps
 
 module _ {S : Type 0} (g : Ghosts S) (history : History) (old : EngineState S) (s : Statement) (is : IsChange s) (kept : EngineRepresents g history old) where
-  -- the tables in memory are those of the history
+  -- the tables in memory are the history's
   of_history : (P : (Refusal → Type 0) → Type 0) → P (AppliesOver old.catalog.tables (clock_of history) s) → P (StatementApplies history s)
   of_history P p = subst (λ (tables : List TableDef). P (AppliesOver tables (clock_of history) s)) (tables_of g history old kept) p
 

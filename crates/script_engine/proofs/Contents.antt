@@ -281,7 +281,7 @@ module _ (history : History) (c : Contents) (change : Change) (plan : Plan) (sai
   abbrev after : Contents
   after = planned change.table c.clock plan.ended plan.added c
 
-  -- the count of the plan is that of the history
+  -- the count of the plan is the count of the history
   pub count_said : count_of change.action (versions_of history change.table) ≡ planned_count change.action plan
   count_said =
       let holds = said.versions change.table in

@@ -1,4 +1,4 @@
--- The versions of a table that have ended, in memory: they go on being those of the store.
+-- The versions of a table that have ended, in memory, remain the ended versions of the store.
 use Rattle.std.proofs.Common.{◌≡◌, ◌≤ℤ◌, ◌++◌, ◌∷◌, ◌∙◌, ℕ, ℤ, zero, suc, Bool, true, false, List, [], Option, None, Some, Result, Ok, Err, append-nil, get_or, map, nat_eq, not, refl, set, sym, ap, ap₂, subst, arith}
 use Rattle.std.specs.List.{filter, slice_get}
 use Rattle.std.specs.List.Sorted.{IsPermutation}

@@ -18,7 +18,7 @@ module _ {S : Type 0} (g : Ghosts S) (history : History) (engine : EngineState S
   pub has_the_same : (other : EngineState S) → other ≡ engine → HasContents g other kept.contents
   has_the_same other same = subst (λ (e : EngineState S). HasContents g e kept.contents) (sym same) has_still
 
-  -- the versions in memory are those of the history
+  -- the versions in memory are the history's
   pub handed_rows : (tables : List RowsByKey) (ended : List (List PackedVersion)) → tables ≡ engine.tables → ended ≡ engine.ended → RowsRepresent history tables ended
   handed_rows tables ended same closed =
       let all : RowsRepresent history engine.tables engine.ended = record { contents = kept.contents; said = kept.said; current = kept.current; ended = kept.ended } in

@@ -1,4 +1,4 @@
--- The results that listeners are handed, and those of the first pieces.
+-- The results that listeners are handed, and the results of the first pieces.
 use Rattle.std.proofs.Common.{◌≡◌, ◌≤◌, ◌<◌, ◌+◌, ◌++◌, ◌∷◌, ◌∙◌, ℕ, Bool, List, [], length, map, take, drop, false, true, ap, arith, inl, inr, refl, subst, sym, append_assoc, vec_capacity, vec_len}
 use Rattle.std.proofs.lemmas.List.{append-nil, map-append, take-append-drop}
 use Rattle.sql_front.specs.Pieces.{spanned}
@@ -42,7 +42,7 @@ module _ {K : Type 0} where
       (items ∙ ap (λ xs. xs ++ results) added ∙ append_assoc old.kept.items (result ∷ []) results, whole)
 
 module _ {H R : Type 0} (IsStep : H → List Lexeme → R → H → Type 0) where
-  -- the results of the first pieces are those of a front of all
+  -- the results of the first pieces begin the results of all
   pub front_of : (opening : H) (tokens : List Lexeme) (spans : List Span) (i : ℕ) (results : List R) (last : H) → StepPieces IsStep opening (map (spanned tokens) (take i spans)) results last →
       StepFront IsStep opening (map (spanned tokens) spans) results false last
   front_of opening tokens spans i results last run = record {

@@ -133,7 +133,7 @@ module _ (history : History) (c : Contents) (reference : QueryReference) (said :
       let fit = rows_fit history c said reference known (map row_of shown_rows) shown_seen in
       subst (λ (v : List Value). has_kinds reference.kinds v ≡ true) same (each_in (λ (r : PeriodRow). has_kinds reference.kinds r.values ≡ true) (map row_of shown_rows) fit row among)
 
-  -- so are those of the rows that are needed of these
+  -- the needed rows of such rows have these kinds too
   pub needed_kinds : (conjuncts : Conditions) (start : ℕ) (rows : List PeriodRow) → IsKnown c.tables reference → IsNeeded history conjuncts start reference rows → list_all (λ (row : PeriodRow). has_kinds reference.kinds row.values) rows ≡ true
   needed_kinds conjuncts start rows known needed =
       all_are (λ (row : PeriodRow). has_kinds reference.kinds row.values) rows
@@ -182,7 +182,7 @@ module _ (conjuncts : Conditions) (start width : ℕ) (positions : List ℕ) (ra
 
 -- ---- lists in their places
 
--- the lists in the places of these references
+-- the lists in the places of a list of references
 abbrev NeededIn : List (List PeriodRow) → History → Conditions → ℕ → List QueryReference → Type 0
 NeededIn tables history conjuncts start [] = Unit {0}
 NeededIn tables history conjuncts start (reference ∷ references) =
@@ -256,7 +256,7 @@ query_placed history (both operator left right) before lists behind in_place (fi
 -- ---- the answer of a query over needed rows
 
 module _ (tables : List (List PeriodRow)) (history : History) (day : ℤ) where
-  -- rows that are there are seen
+  -- rows of the lists are seen
   sound_product : (conjuncts : Conditions) (start : ℕ) (references : List QueryReference) (values : List Value) → NeededIn tables history conjuncts start references → InProduct (VisibleInTables tables day) references values → InProduct (VisibleInHistory history day) references values
   sound_product conjuncts start [] values needed h = h
   sound_product conjuncts start (reference ∷ references) values (needs, (width, wide, more)) (first, rest, sees, others, is) =
@@ -338,7 +338,7 @@ pub added_none : (history : History) (conjuncts : Conditions) (start : ℕ) (ref
 added_none history conjuncts start references lists none =
     ([], sym (append-nil lists), subst (λ (rs : List QueryReference). SeeNeeded history conjuncts start rs []) (sym none) tt)
 
--- a reference's list, and after it those of the others
+-- a reference's list, and after it the lists of the later references
 pub added_more : (history : History) (conjuncts : Conditions) (start next width : ℕ) (references more : List QueryReference) (reference : QueryReference) (rows : List PeriodRow) (lists pushed new : List (List PeriodRow)) → references ≡ reference ∷ more →
     IsNeeded history conjuncts start reference rows → SeesWidth history reference width → next ≡ start + width → pushed ≡ lists ++ rows ∷ [] → AddNeeded (SeeNeeded history conjuncts next more) pushed new → AddNeeded (SeeNeeded history conjuncts start references) lists new
 added_more history conjuncts start next width references more reference rows lists pushed new split needs wide next_is pushed_is (added, made, others) = (

@@ -71,7 +71,7 @@ module _ (clock : ℤ) (action : Action) (before : int_eq clock forever ≡ fals
       go true false rest = omega (arith, rest)
       go false b rest = rest
 
-  -- the rest of a version has ended if the version had, or if it is kept
+  -- the rest of a version has ended if the version had, or if some of it remains
   left_past : (v : PlainVersion) → length (filter is_past (remains_of clock action v)) ≡ length (filter is_past (v ∷ [])) + length (filter is_kept (v ∷ []))
   left_past v = go (int_eq v.to forever) (touches action (its_row v)) (int_eq v.from clock) refl
     where
@@ -149,7 +149,7 @@ past_count g history engine represents table =
     ∙ sym (ap length (filter-map is_past plain_version held.rows))
     ∙ sym (length_permutation (filter is_past (map plain_version held.rows)) (past_of history table) past)
 
--- a change of these versions
+-- a change of the touched versions
 lost : (touched before after past forgotten later : ℕ) → before ≡ past → after ≡ later → past + touched ≡ later + forgotten → past ≤ later → lost_of touched before after ≡ forgotten
 lost touched before after past forgotten later was is all more = omega (arith, was, is, all, more)
 

@@ -182,7 +182,7 @@ all_points good lawful = record {
   constrained = lawful;
 }
 
--- without it the others do
+-- the points that are left without this point
 abbrev pub other_points : {db : sqlite.Database} → IsGoodStore AreConstrained db → IsGoodStore NoExtraCondition db
 other_points good = record {
   form = good.form;

@@ -100,7 +100,7 @@ keys_differ table a b differ =
 -- ---- the remains of versions
 
 module _ (table : ℕ) (moment : ℤ) (ended : List VersionRow) where
-  -- the key of a version is another than that of what is left of one of another key
+  -- the rest of a version with one key has not the key of a version with another
   kept_apart : (v w : TableVersion) → same_version v w ≡ false → AllByRecursion (λ (u : TableVersion). same_version v u ≡ false) (remains_of table moment ended w)
   kept_apart v w differ = go (is_ended table ended w) (is_eq (int_cmp w.from moment))
     where
@@ -249,7 +249,7 @@ module _ (history : History) (c : Contents) (change : Change) (plan : Plan) (sai
   }
 
   module _ (d : TableDef) (there : table_of (catalog_of history) change.table ≡ Some d) (allowed : IsLawfulChange (catalog_of history) (last_state history) change) where
-    -- no two of these rows clash
+    -- no two rows of the table clash
     no_clash : HasNoClash (key_positions d) (map row_of rows_now)
     no_clash day clash =
         let Same : List Value → List Value → Type 0 = λ v w. values_at (key_positions d) v ≡ values_at (key_positions d) w in

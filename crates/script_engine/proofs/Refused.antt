@@ -68,7 +68,7 @@ days-planned (Insert given) listed plan plans = days-given given plan.added (row
 days-planned (Update portion assignments condition) listed plan plans = refl
 days-planned (Delete portion condition) listed plan plans = refl
 
--- an answer by the conditions alone is one also if that of an empty period follows them
+-- an answer by the conditions alone is one also if the condition of an empty period follows them
 pub may_answer-before : (conditions : List RefusalCondition) (holds : Bool) (refusal : Refusal) → are_at_most 41 conditions ≡ true → MayAnswer (Holds conditions) refusal → MayAnswer (Holds (conditions ++ (EmptyPeriod, holds) ∷ [])) refusal
 may_answer-before conditions holds refusal low (inr memory) = inr memory
 may_answer-before conditions holds refusal low (inl least) = inl (record {
@@ -83,7 +83,7 @@ may_answer-before conditions holds refusal low (inl least) = inl (record {
       ];
 })
 
--- an empty period is answered if its condition holds and none of the others does
+-- an empty period is answered if its condition holds and no other condition does
 pub may_answer-empty : (conditions : List RefusalCondition) (holds : Bool) → NoneApplies (Holds conditions) → holds ≡ true → MayAnswer (Holds (conditions ++ (EmptyPeriod, holds) ∷ [])) EmptyPeriod
 may_answer-empty conditions holds none held = inl (record {
   applies = holds_after conditions ((EmptyPeriod, holds) ∷ []) EmptyPeriod (inl (refl, held));

@@ -114,7 +114,7 @@ is_answer = record {
   );
 }
 
--- the row cut in two on day 6: on the day before, which is its witness, the values of the second are there
+-- the row cut in two on day 6: the day before is its witness, on which the second row's values hold
 abbrev two_rows : Answer
 two_rows = record {
   columns = codes "V" ∷ [];

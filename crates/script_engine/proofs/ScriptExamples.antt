@@ -94,7 +94,7 @@ cut = record {
   parted = (lookup ∷ letter ∷ [], pieces.Joined.more lookup semicolon refl refl (pieces.Joined.one letter refl), refl);
 }
 
--- the first piece is a query of the rows of T as they are kept
+-- the first piece is a query of the stored rows of T
 abbrev looked_up : Statement
 looked_up = stored (record { table = codes "T"; window = None; condition = None })
 

@@ -185,13 +185,13 @@ inserted = (
 abbrev half_empty : InsertRows
 half_empty = into_emp (employee 1 5 8 ∷ employee 2 8 8 ∷ [])
 
--- the second row ends on its first day: no history in which the first row is there follows the refusal
+-- the second row ends on its first day: no history that has the first row follows the refusal
 first_row_not_added : Step with_table (statement.insert half_empty) (Err EmptyPeriod) with_row → ⊥
 first_row_not_added (may, same) = cc
 
 -- ---- stored queries
 
--- the row as it is kept
+-- the stored row
 abbrev kept : VersionRow
 kept = record { values = worker; period = period_over (pos 5) (pos 8) refl; from = first_moment; to = forever }
 

@@ -17,7 +17,7 @@ use Rattle.script_engine.proofs.Steps.{tables_of}
 use Rattle.script_engine.proofs.TimedFacts.{same_clock}
 
 module _ {S : Type 0} (g : Ghosts S) (history : History) (engine : EngineState S) (kept : EngineRepresents g history engine) (s : Statement) where
-  -- by the tables and the clock in memory, and by those of the history
+  -- conditions over the engine's tables and clock are conditions over the history's
   pub applies_in : (P : (Refusal → Type 0) → Type 0) → P (AppliesOver engine.catalog.tables engine.clock s) → P (StatementApplies history s)
   applies_in P p = subst₂ (λ (tables : List TableDef) (clock : ℤ). P (AppliesOver tables clock s)) (tables_of g history engine kept) (same_clock g history engine kept) p
 

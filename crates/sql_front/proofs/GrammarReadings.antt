@@ -1,4 +1,4 @@
--- Each production, by what its literals stand for.
+-- Each production, by the values of its literals.
 use Rattle.std.proofs.Common.{◌≡◌, ℕ, zero, suc, true, false, List, refl, codes, ◌||◌, Bool}
 use Rattle.std.specs.Str.{bytes_eq}
 use Rattle.sql_statements.specs.Lexemes.{Lexeme}
@@ -41,11 +41,11 @@ listed r = readings_separated comma_no_minus r
 a_word : (w : List ℕ) → Readings (Fixed (keyword w)) (Fixed (keyword w)) (Fixed (keyword w))
 a_word w = readings_fixed (keyword_no_minus w)
 
--- a keyword that stands for a value
+-- a keyword that denotes a value
 word_for : {A : Type 0} (a : A) (w : List ℕ) → Readings (Denotes a (keyword w)) (Denotes a (keyword w)) (Denotes a (keyword w))
 word_for a w = readings_of_token a (keyword_no_minus w)
 
--- a sign that stands for a value
+-- a sign that denotes a value
 sign_for : {A : Type 0} (a : A) (s : List ℕ) → bytes_eq s (codes "-") ≡ false → Readings (Denotes a (symbol s)) (Denotes a (symbol s)) (Denotes a (symbol s))
 sign_for a s e = readings_of_token a (symbol_no_minus s e)
 
@@ -159,7 +159,7 @@ readings_compare =
 -- ---- conditions
 
 module _ {T : Type 0} {E S Y : Language T} (tests : Readings E S Y) where
-  -- over what stands in parentheses
+  -- over a condition in parentheses
   readings_over : {E2 S2 Y2 : Language (Condition T)} → Readings E2 S2 Y2 → Readings (IsCondition E E2) (IsCondition S S2) (IsCondition Y Y2)
   readings_over {E2} {S2} {Y2} r =
       let one : Readings (IsTest E E2) (IsTest S S2) (IsTest Y Y2) = readings_choice (readings_enclosed r) (readings_built test tests) in

@@ -192,7 +192,7 @@ reads_preceded_or_not {A} {test} {other} {L} {F} {p} s apart r =
       again = λ front a rest h follow. sym (either_way test p (front ++ rest)) ∙ either.again front a rest h follow;
     }
 
--- a token that stands for a value
+-- a token that denotes a value
 pub reads_denotes : {A : Type 0} (a : A) (test : Lexeme → Bool) → Reads (Denotes a test) Any (denotes_read a test)
 reads_denotes a test = reads_built (λ (nothing : Unit {0}). a) (reads_fixed test)
 

@@ -39,7 +39,7 @@ unfolding leading_names_read more_names_read
 leading_fails_first error.Memory ts h = tt
 leading_fails_first error.Syntax ts h = rw h refl
 
--- if one more name comes, a comma does
+-- if one more name follows, a comma is next
 pub comma_first : (ts : List Lexeme) → one_more_name ts ≡ true → begins comma ts ≡ true
 unfolding one_more_name
 comma_first ts e = (and_parts (begins comma ts) (second_is name ts) e).0

@@ -1,4 +1,4 @@
--- The refusals of a piece that is spelled and not too deep are those of its literals.
+-- The refusals of a piece that is spelled and not too deep are its literals' refusals.
 use Rattle.std.proofs.Common.{◌≤◌, List}
 use Rattle.period_core.specs.Codes.{code_of}
 use Rattle.period_core.specs.Leasts.{IsLeast, NoneApplies}

@@ -11,7 +11,7 @@ use Rattle.sql_statements.specs.Lexemes.{Lexeme}
 use Rattle.sql_front.specs.Pieces as pieces
 use Rattle.sql_front.specs.Pieces.{is_semicolon, is_nonempty, is_filled, spans_from, HasNoSemicolon, HasPieces, HasSpans, spanned, IsWithin}
 
--- the tokens are those of some things
+-- the tokens are images of some things
 module _ {A : Type 0} (f : A → Lexeme) where
   -- the pieces before one place are cut, and up to another there is no semicolon
   pub record Cut (tokens : List A) (start i : ℕ) (spans : List Span) : Type 0 where
@@ -86,7 +86,7 @@ module _ {A : Type 0} (f : A → Lexeme) where
       let is : nat_lt start i ≡ false = grind (arith, nat_tests) in
       rw (size, rest, is) refl
 
-  -- a span after the others
+  -- a span at the end
   span_after : (ts : List Lexeme) (spans after : List Span) (span : Span) (more : List Span) → after ≡ spans ++ span ∷ [] → HasSpans 0 ts (spans ++ span ∷ more) → HasSpans 0 ts (after ++ more)
   span_after ts spans after span more pushed has =
       subst (HasSpans 0 ts) (sym (ap (λ (x : List Span). x ++ more) pushed ∙ append_assoc spans (span ∷ []) more)) has
@@ -101,7 +101,7 @@ module _ {A : Type 0} (f : A → Lexeme) where
   pushed_within : (n : ℕ) (spans after : List Span) (span : Span) → after ≡ spans ++ span ∷ [] → All (IsWithin n) spans → IsWithin n span → All (IsWithin n) after
   pushed_within n spans after span pushed h one = subst (All (IsWithin n)) (sym pushed) (All-push (IsWithin n) spans span h one)
 
-  -- a part before others
+  -- a part before more parts
   part_first : (tokens : List A) (start i : ℕ) (spans : List Span) (d : A) → (c : Cut tokens start i spans) → i < length tokens
       → is_semicolon (f (get_or tokens i d)) ≡ true → (parts : List (List Lexeme)) → pieces.Joined parts (drop (i + 1) (map f tokens))
       → pieces.Joined (c.part ∷ parts) (drop start (map f tokens))

@@ -38,7 +38,7 @@ p = Named (column (codes "P"))
 abbrev q : PeriodOperand
 q = Named (column (codes "Q"))
 
--- ---- predicates beside comparisons
+-- ---- predicates that are no comparisons
 
 -- SELECT * FROM T WHERE NOT P OVERLAPS Q AND (A = 1 OR P EQUALS Q)
 abbrev mixed : List Lexeme

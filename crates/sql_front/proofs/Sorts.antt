@@ -209,7 +209,7 @@ leads_sequence {from = from} r s = record {
       subst (λ (z : List Lexeme). Next from z) (sym regrouped) (r.lead h.0 v.0 (h.1 ++ rest) h.3 (s.lead h.1 v.1 rest h.4 n));
 }
 
--- ---- the laws, for what comes next
+-- ---- the laws, by the next tokens
 
 pub reads_next : {A : Type 0} {L : List Lexeme → A → Type 0} {p : Reader A} (ss : List Sort) → Reads L Any p → Reads L (Next ss) p
 reads_next ss r = reads_weaken (Next ss) (λ rest n. tt) r

@@ -89,7 +89,7 @@ written_own (v ∷ vs) held distinct = (go vs held.1 distinct.0, written_own vs 
     go [] held2 apart = tt
     go (w ∷ ws) held2 apart = (same_bytes v w held.0 held2.0 ∙ apart.0, go ws held2.1 apart.1)
 
--- ---- a row that is added beside versions that are still to be removed
+-- ---- a row that is added while versions are still to be removed
 
 module _ (table : ℕ) (moment : ℤ) where
   pending_same : (keys : List VersionKey) (v w : Version) → same_key v w ≡ true → is_pending table moment keys w ≡ is_pending table moment keys v

@@ -249,7 +249,7 @@ pub same_moved : (old new : Database) (count n : ℕ) (bytes : List ℕ) (start 
     → (m : Records) → Represents old m → Represents new (changed (key_at table moment row.key) (with_ends row.end forever) m) × (count ≡ length (filter (same_key (key_at table moment row.key)) m.versions))
 same_moved old new count n bytes start from end to table moment row is_table are_bytes is_start is_from is_end is_to made = rw (is_table, are_bytes, is_start, is_from, is_end, is_to) at made
 
--- the place of a row that began at the moment is that of its key
+-- the place of a row that began at the moment is the place of its key
 pub same_place : (table : ℕ) (moment : ℤ) (row : VersionRow) (place : VersionKey) → place.values.items ≡ encoded row.values → place.start ≡ row.period.start → moment ≡ row.from
     → (v : Version) → same_key (key_at table moment place) v ≡ same_key (written_version (version_in table row)) v
 same_place table moment row place values start from v =

@@ -69,7 +69,7 @@ set_elsewhere (l ∷ ls) zero (suc other) new off = refl
 set_elsewhere (l ∷ ls) (suc place) zero new off = refl
 set_elsewhere (l ∷ ls) (suc place) (suc other) new off = set_elsewhere ls place other new (λ same. off (ap suc same))
 
--- the rows of a table stay when those of another are set
+-- the rows of a table stay when another table's are set
 pub others_stay : (ls : List (List VersionRow)) (place : ℕ) (new : List VersionRow) (other : ℕ) → (other ≡ suc place → ⊥) → rows_of_table (set ls place new) other ≡ rows_of_table ls other
 others_stay ls place new zero off = refl
 others_stay ls place new (suc other) off = set_elsewhere ls place other new (λ same. off (ap suc same))
@@ -119,7 +119,7 @@ none_read form tables clock rows lists long none = record {
   count = long;
 }
 
--- the number of a row that is read is that of a table
+-- the number of a row that is read is a table's
 pub number_of_table : (form : Form) (tables : List TableDef) (clock : ℤ) (row : Row) (n : ℕ) (read : VersionRow) → IsReadAs form tables clock row n read → (0 < n) × (n ≤ length tables)
 number_of_table form tables clock row n read (v, is, good, same) =
     let table : n ≡ v.table = ap (λ (w : TableVersion). w.table) same in

@@ -117,7 +117,7 @@ chosen_in form table selection chooses vs sure =
     ap (λ p. map (version_of form) (filter p (of_table table vs))) same
     ∙ sym (ap (filter is_chosen) (filter-map (λ (v : TableVersion). v.table == table) (version_of form) vs) ∙ filter-map is_chosen (version_of form) (of_table table vs))
 
--- the first of the versions in order, and the others
+-- the first of the versions in order, and the rest
 first_are : (form : Form) (c : Contents) (table : ℕ) (selection : Selection) (chooses : ℤ → ℤ → Bool) (ys : List TableVersion) (n : ℕ) (rows : List VersionRow) → Selects form selection chooses → IsPermutation (chosen_of table (selects selection) c.versions) ys
     → IsSorted version_cmp ys → map (version_in table) rows ≡ map (version_of form) (take n ys) → AreFirst (in_microseconds form c) table chooses rows (map (version_of form) (drop n ys))
 first_are form c table selection chooses ys n rows sure same up is =

@@ -128,7 +128,7 @@ all_good form c is good =
     all-map (IsGoodVersion c.tables (moment_in form c.clock)) (version_of form) c.versions
     (all_weaker (IsGoodVersionIn form c.tables c.clock) (λ (v : TableVersion). IsGoodVersion c.tables (moment_in form c.clock) (version_of form v)) (λ v one. good_version form c.tables c.clock v is one) c.versions good)
 
--- the order of versions is that of their seconds
+-- the order of versions is the order of their seconds
 same_order : (a b : ℤ) → int_cmp (second_start a) (second_start b) ≡ int_cmp a b
 same_order a b = grind (arith, nat_tests, ints)
 

@@ -11,7 +11,7 @@ use Rattle.version_store.specs.declared.fault.StoreFault.TheVariants.{Memory}
 abbrev pub IsCaused : State → State → StoreFault → Type 0
 IsCaused old new fault = IsTrue old.is_open → (fault ≡ Memory) ⊎ HasFault old new
 
--- rows that are judged are those of no good store, or memory ran out
+-- the judged rows belong to no good store, or memory ran out
 abbrev pub IsJudgement : OpenFault → Type 0
 IsJudgement fault = (fault ≡ BadStore) ⊎ (fault ≡ Store Memory)
 

@@ -11,7 +11,7 @@ use Rattle.version_store.specs.Faults.{IsCaused}
 use Rattle.version_store.specs.Written.{Has}
 use Rattle.version_store.specs.declared.fault.StoreFault.{StoreFault}
 
--- on Ok the transaction goes on, and the contents of the database are changed
+-- on Ok the transaction stays open, and the contents of the database are changed
 abbrev pub Carries : {S X E : Type 0} → Ghosts S → Held S → Held S → Result X E
     → (Contents → Contents) → Type 0
 Carries g old new result change =

@@ -96,7 +96,7 @@ module _ (others : Others) (bare : AllByRecursion (λ i. 4 ≤ i.table) others.i
   meta_small id form clock (inr (i, inl first, is, not_entry)) = absurd (let other = ap (λ (i : Index). i.table) first in omega (arith, is, other))
   meta_small id form clock (inr (i, inr there, is, not_entry)) = not_theirs i 0 (omega arith) there is
 
--- ---- the references of others hold as they did
+-- ---- the references of other tables hold as they did
 
 module _ (others : Others) (apart : AllByRecursion IsApart others.tables) (db next : Trees) (same : AllByRecursion (λ t. next t.tree ≡ db t.tree) others.tables) where
   held_same : (places : List ℕ) (row : Row) (key : _) → IsKeyOf (λ t. next t ≡ db t) key → is_held next places row key ≡ is_held db places row key

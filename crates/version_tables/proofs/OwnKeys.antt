@@ -34,7 +34,7 @@ own_after (x ∷ xs) ys own = own_after xs ys own.1
 swapped : (xs ys zs : List Version) → IsPermutation (xs ++ (ys ++ zs)) (ys ++ (xs ++ zs))
 swapped xs ys zs = subst (λ l. IsPermutation l (ys ++ (xs ++ zs))) (append_assoc xs ys zs) (subst (IsPermutation ((xs ++ ys) ++ zs)) (append_assoc ys xs zs) (IsPermutation-append_left zs (xs ++ ys) (ys ++ xs) (IsPermutation-append_comm xs ys)))
 
--- a part of what can be added can be added behind an earlier part
+-- a part of the rows that can be added can be added after an earlier part
 module _ {X : Type 0} (f : X → Version) (done batch more : List X) (m : Records) where
   short_part : (xs ys : List Version) → AllByRecursion (λ (v : Version). IsShort v.values) (xs ++ ys) → AllByRecursion (λ (v : Version). IsShort v.values) xs × AllByRecursion (λ (v : Version). IsShort v.values) ys
   short_part [] ys all = (tt, all)

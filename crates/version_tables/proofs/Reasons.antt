@@ -1,4 +1,4 @@
--- Why a text of the store fails if the three tables are there.
+-- The reasons why a text of the store fails if the three tables exist.
 use Rattle.std.proofs.Common.{◌≡◌, ◌∙◌, inl, inr, ℕ, List, [], ◌∷◌, true, false, codes, Ok, Err, Result, IfErr, refl, sym, ap, subst, subst₂, append-nil, length, true≢false, arith}
 use Rattle.std.specs.Prelude.{nat_le, Vec}
 use Rattle.std.specs.declared.alloc.Global.{Global}

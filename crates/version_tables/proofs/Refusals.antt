@@ -38,7 +38,7 @@ use Rattle.version_tables.specs.Tables.{IsApart, Others, schema_with}
 use Rattle.version_tables.proofs.Apart.{no_works}
 use Rattle.version_tables.proofs.Reasons.{IsOne, NeverOverflows, by_failure, known, not_refused}
 
--- ---- a command that changes the database is run where it stands
+-- ---- a command that changes the database is run in its place
 
 abbrev pub IsChange : Command → Type 0
 IsChange (Insert at from) = Unit {0}

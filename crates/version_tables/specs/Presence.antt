@@ -32,7 +32,7 @@ abbrev pub version_columns : List (List ℕ)
 version_columns =
     codes "tab" ∷ codes "vals" ∷ codes "s" ∷ codes "e" ∷ codes "ss" ∷ codes "se" ∷ []
 
--- whether a table of the name is there and has the column
+-- whether a table with the name exists and has the column
 abbrev pub has_column : Schema → List ℕ → List ℕ → Bool
 has_column s name column =
     list_any (λ t. same_name t.name name && is_some (column_named t column)) s.tables

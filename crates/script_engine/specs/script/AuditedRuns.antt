@@ -12,7 +12,7 @@ use Rattle.statement_reports.specs.declared.outcome.Outcome.{Outcome}
 use Rattle.statement_reports.specs.declared.entry.Entry.{Entry}
 
 -- a piece that spells no sound statement is refused, without an audit, and the history stays; the
--- entry of another is that of its statement
+-- entry of another piece is its statement's
 abbrev pub AuditedPieceStep : History → List Lexeme → Entry → History → Type 0
 AuditedPieceStep history piece entry new =
     ((refusal : Refusal) × (entry ≡ record { result = Err refusal; audit = None })

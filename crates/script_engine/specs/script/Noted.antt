@@ -44,7 +44,7 @@ Forgets history s count =
 
 -- ---- runs
 
--- the run of a piece of which this is kept, by the step of what is kept beside the number, and by
+-- the run of a piece with this record, by the step of the record without its number, and by
 -- the result that it has
 module _ {K : Type 0} (IsStep : History → List Lexeme → K → History → Type 0)
     (result_of : K → Result Outcome Refusal) where
@@ -53,7 +53,7 @@ module _ {K : Type 0} (IsStep : History → List Lexeme → K → History → Ty
     pub step : IsStep old piece noted.kept new
     -- a piece that is refused forgets none
     pub none : OnErr (result_of noted.kept) (noted.forgotten ≡ 0)
-    -- the number is that of its statement
+    -- the number is its statement's
     pub told : OnOk (result_of noted.kept)
         ((s : Statement) → IsStatement piece s → Forgets old s noted.forgotten)
 

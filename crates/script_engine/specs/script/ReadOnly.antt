@@ -42,7 +42,7 @@ ReadOnlyPieceStepOver =
 
 -- ---- laws, each the contract of a function of this crate
 
--- a run over a store that is only read is a run of the same pieces, with the results that were kept
+-- a run over a store that is only read is a run of the same pieces, with the recorded results
 abbrev pub ReadOnlyRunsAreRuns : Type 0
 ReadOnlyRunsAreRuns =
     (old new : History) (pieces : List (List Lexeme))

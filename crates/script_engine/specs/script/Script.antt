@@ -49,7 +49,7 @@ abbrev pub PieceStepOver : {S : Type 0} → Ghosts S → EngineState S → List 
     → Result Outcome Refusal → EngineState S → Type 0
 PieceStepOver g = PieceStepBy (StepOver g)
 
--- over an engine, of what is kept of a piece: by the result that it has
+-- over an engine, of the record of a piece: by the result that it has
 abbrev pub KeptStepOver : {S K : Type 0} → Ghosts S → (K → Result Outcome Refusal)
     → EngineState S → List Lexeme → K → EngineState S → Type 0
 KeptStepOver g result_of old piece kept = PieceStepOver g old piece (result_of kept)
@@ -86,7 +86,7 @@ abbrev pub MayRefuseScript : List ℕ → Refusal → Type 0
 MayRefuseScript script refusal = MayAnswer (ScriptApplies script) refusal
 
 -- the refusals that a run of a whole script may get: its own, and, of a script that none of them
--- applies to, those of the store that is opened
+-- applies to, the refusals of the store that is opened
 abbrev pub MayRefuseRun : List ℕ → Refusal → Type 0
 MayRefuseRun script refusal =
     MayRefuseScript script refusal

@@ -67,7 +67,7 @@ unnamed_more r xs i x here item other =
     ∙ append-nil (filter p (take i xs)) in
     ap matched (sym same)
 
--- the faults of a name are those of its matches
+-- the faults of a name are the faults of its matches
 pub found_match : (ms : List SeenColumn) → found_faults (matched ms) ≡ match_faults ms
 unfolding match_faults is_matching
 found_match [] = refl

@@ -52,7 +52,7 @@ returns-clause-good g c clean on has =
     found_contents old own.0 own.1 c.check_rows.result
     (judged_good old c.deref-4.result.now c.deref-5.result.now c.in_ok-versions.versions.items pm pt pv has keys c.check_rows.result c.check_rows.ensures.good)
 
--- the versions read are those of whatever contents the database has
+-- the versions read are the versions of whatever contents the database has
 pub returns-clause-versions : goal.returns-clause-versions
 returns-clause-versions g c clean on =
     let old = (state g.S.Store c.args.connection.now).now in
