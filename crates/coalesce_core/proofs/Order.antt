@@ -82,7 +82,7 @@ PrecedesWithGap-trans a b c p q = (
       ] refl,
 )
 
--- a row behind b, by b's values or from b's first day on, lies behind each row that precedes b
+-- a row behind b, by b's values or from b's first day on, lies after each row that precedes b
 pub PrecedesWithGap-later :
     (a b c : PeriodRow) → PrecedesWithGap a b → b.values ≡ c.values
     → b.period.start ≤ℤ c.period.start → PrecedesWithGap a c
@@ -99,7 +99,7 @@ PrecedesWithGap-later a b c p same later =
           let before : answer_cmp a b ≡ Less = p.0 in cc)
     ] refl
 
--- a row that does not come before b lies behind each row that precedes b
+-- a row that does not come before b lies after each row that precedes b
 pub PrecedesWithGap-upto :
     (a b c : PeriodRow) → PrecedesWithGap a b → NotAfter b c → PrecedesWithGap a c
 PrecedesWithGap-upto a b c p upto =

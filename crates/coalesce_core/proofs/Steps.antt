@@ -133,7 +133,7 @@ same_or_not a b =
       | false ↦ λ e. inr (λ same. let yes : eq_by_cmp values_cmp a.values b.values ≡ true = test.1 same in cc)
     ] refl
 
--- a row that the first does not join lies behind it with a gap
+-- a row that the first does not join lies after it with a gap
 pub apart :
     (row next : PeriodRow) → NotAfter row next
     → ((row.values ≡ next.values) × (next.period.start ≤ℤ row.period.end) → ⊥)
@@ -159,7 +159,7 @@ IsCoalescedOf-two rows row next p gap = record {
   coalesced = AllPairs-front PrecedesWithGap row (next ∷ []) (λ y c. subst (PrecedesWithGap row) (Contains-one next y c) gap) (AllPairs-one PrecedesWithGap next);
 }
 
--- rows that become one row and the next, and what the next and all behind it become
+-- rows that become one row and the next, and what the next and all after it become
 pub IsCoalescedOf-step :
     (rows : List PeriodRow) (row next : PeriodRow) (rest answer : List PeriodRow)
     → IsCoalescedOf (rows ++ next ∷ []) (row ∷ next ∷ []) → IsOrdered (next ∷ rest)

@@ -104,7 +104,7 @@ module _ {S : Type 0} (steps : S → Option PeriodRow → S → Type 0) where
   Yields-append s [] t ys u a b = subst (λ k. Yields steps k ys u) (sym a) b
   Yields-append s (x ∷ xs) t ys u a b = (a.0, a.1, Yields-append a.0 xs t ys u a.2 b)
 
-  -- the source at s gave these rows behind the one in hand, and then, if none is in hand
+  -- the source at s gave these rows after the one in hand, and then, if none is in hand
   -- afterwards, its end; if none was in hand it was not called
   abbrev Calls : Option PeriodRow → S → List PeriodRow → Option PeriodRow → Type 0
   Calls None s taken ahead = (taken ≡ []) × (ahead ≡ None)
@@ -160,7 +160,7 @@ module _ {S : Type 0} (steps : S → Option PeriodRow → S → Type 0) where
   none_ahead P None h = refl
   none_ahead P (Some first) h = absurd h
 
-  -- the run of the source: its first row, and those behind it
+  -- the run of the source: its first row, and those after it
   source_calls :
       (held : Option PeriodRow) (source s : S) (taken : List PeriodRow) (ahead : Option PeriodRow)
       → steps source held s → Calls held s taken ahead

@@ -80,11 +80,11 @@ flag_before_names = record {
   reads_only = λ reads. cc;
 }
 
--- and --tables beside no script
+-- --tables goes with no script
 tables_beside_a_script : IsFileCommand (codes "pay.store" ∷ codes "--tables" ∷ codes "a.sql" ∷ []) → ⊥
 tables_beside_a_script form = let one = (form.lists refl).1 in omega (arith, one)
 
--- nor --verify, and --read-only beside no --now
+-- --verify goes with no script, and --read-only not with --now
 verify_beside_a_script : IsFileCommand (codes "pay.store" ∷ codes "--verify" ∷ codes "a.sql" ∷ []) → ⊥
 verify_beside_a_script form = let one = (form.verifies refl).1 in omega (arith, one)
 

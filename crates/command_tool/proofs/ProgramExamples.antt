@@ -13,7 +13,7 @@ use Rattle.command_tool.specs.Program.{MayEndSilently, audited_status, status_of
 
 -- ---- statuses
 
--- one that was refused counts, wherever it stands
+-- a refused statement counts, whatever its place
 refused_after_done : status_of (Ok (Done Create 0) ∷ Err Syntax ∷ []) ≡ 1
 refused_after_done = refl
 

@@ -130,7 +130,7 @@ module _ (links : List Link) (link : Link) where
           (lower (hashes longer) n q (get nat_cmp last q) (other_hash q apart)
           (subst (λ (bound : ℕ). IsLastPlace (hashes longer) bound q (get nat_cmp last q)) (length_push links link) (are.last_of q)))
 
-  -- the map has the place that goes
+  -- the map has the place that is removed
   pub still_there : (last : BTreeMap ℕ ℕ) → AreChained longer last → get nat_cmp last link.hash ≡ None → ⊥
   still_there last are none =
       let is : IsLastPlace (hashes longer) (length longer) link.hash None = subst (IsLastPlace (hashes longer) (length longer) link.hash) none (are.last_of link.hash) in

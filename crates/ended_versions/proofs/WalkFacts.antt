@@ -29,7 +29,7 @@ some_fail test xs d low (suc n) within none =
     ∙ (one_fails test xs d (low + n) (omega arith) (none (low + n) (omega arith) (omega arith))
     ∙ some_fail test xs d low n (omega arith) (λ k from below. none k from (omega arith)))
 
--- no place between two others, from none on and before
+-- no place between two, from none on and before
 pub none_between :
     {X : Type 0} (test : X → Bool) (xs : List X) (d : X) (low high : ℕ) → low ≤ high → high ≤ length xs
     → ((k : ℕ) → low ≤ k → k < high → test (get_or xs k d) ≡ false)

@@ -8,14 +8,14 @@ use Rattle.period_core.specs.declared.period.Period.{Period}
 use Rattle.period_core.specs.declared.version.VersionRow.{VersionRow}
 use Rattle.period_core.specs.declared.window.Window.{Window}
 
--- a version whose values are kept as bytes
+-- a version whose values are bytes
 pub record PackedVersion : Type 0 where
   pub bytes : List ℕ
   pub period : Period
   pub from : ℤ
   pub to : ℤ
 
--- a version, kept so
+-- a version, with its values as bytes
 abbrev pub packed : VersionRow → PackedVersion
 packed version = record {
   bytes = encoded version.values;

@@ -1,4 +1,4 @@
--- The effect of a change on the versions that are kept, as of later and of earlier moments.
+-- The effect of a change on a table's versions, as of later and of earlier moments.
 use Rattle.std.proofs.Common.{◌≡◌, ◌<ℤ◌, ◌≤ℤ◌, ℕ, ℤ, Bool, true, false, List, cond, length, map, nat_eq, append-nil, refl, sym, subst, ap, ◌∙◌}
 use Rattle.std.specs.List.{All, flat_map}
 use Rattle.std.specs.List.Sorted.{IsPermutation}
@@ -48,7 +48,7 @@ module _ (clock : ℤ) (action : Action) (old new : List VersionRow) (makes : Ap
       (IsPermutation-sym (map plain_version new) (versions_after clock action (map plain_version old)) makes)
       (after_sound clock open_clock action (map plain_version old) (plain_sound clock old sound)))
 
--- ---- the versions that are kept
+-- ---- the versions after a change
 
 module _ (history : History) (old new : Database) (change : Change) (changed : IsChangedBy change old new) where
   daily_at : IsRecord old → Represents history old → (table : ℕ) (moment day : ℤ) → moment <ℤ forever → (b : Bool) → nat_eq table change.table ≡ b

@@ -1,5 +1,5 @@
 -- Worked rows of the model: what an INSERT makes of a day, versions as of a moment, the ordinary query on a day.
--- Those of UPDATE and DELETE are in ChangeExamples.
+-- ChangeExamples has UPDATE and DELETE.
 use Rattle.std.proofs.Common.{◌≡◌, pos, List, [], ◌∷◌, codes, refl, subst, arith}
 use Rattle.std.specs.List.{Contains}
 use Rattle.std.proofs.lemmas.Int.{ints}

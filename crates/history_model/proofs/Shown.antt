@@ -81,7 +81,7 @@ from_le a b h = grind (arith, ints)
 from_lt : (a b : ℤ) → int_lt a b ≡ true → a <ℤ b
 from_lt a b h = grind (arith, ints)
 
--- a moment at which the window looks and the version stands
+-- a moment at which the window looks and the version is current
 abbrev Meeting : Window → VersionRow → Type 0
 Meeting window v = (m : ℤ) × (m <ℤ forever) × CoversMoment window m × (window_sees (AsOf m) v.from v.to ≡ true)
 

@@ -53,7 +53,7 @@ pub record MayList (s : Snapshot) (change : ℕ × Object) : Type 0 where
   pub shaped : s.shape change.0 ≡ change.1.shape
   pub present : change.1.shape ≢ Absent
 
--- there is room for the number, and the tree is there
+-- there is room for the number, and the tree exists
 pub record HasPlaced (old new : Content) (tree : ℕ) (it : StoredTree) : Type 0 where
   pub room : List StoredTree
   pub same : snapshot_in room old.version ≡ snapshot old

@@ -53,7 +53,7 @@ module _ (rows xs : List Row) (r : Row) (ys : List Row) (is : rows ≡ xs ++ r �
   pub beyond : (at k : ℕ) → at ≡ length xs + suc k → length ys ≤ k → length rows ≤ at
   beyond at k past high = rw is (omega (arith, length-append xs (r ∷ ys), past, high))
 
--- a number on the right that can be told
+-- a number on the right that is known
 pub told : (at left k : ℕ) → at ≡ min (left + 1 + k) most → at < most → (at ≡ left + suc k) × (k < most)
 told at left k is low = (omega (arith, is, low), omega (arith, is, low))
 

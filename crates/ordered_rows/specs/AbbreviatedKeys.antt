@@ -1,4 +1,4 @@
--- Abbreviated keys: the beginning of a row, which is kept with it.
+-- Abbreviated keys: the beginning of a row, which is stored with it.
 use Rattle.std.specs.Prelude.{◌≡◌, ◌+◌, ◌*◌, ◌<◌, ℕ, ℤ, zero, suc, List, [], ◌∷◌}
 use Rattle.std.specs.Prelude.{Option, Some, None, slice_index_or}
 use Rattle.std.specs.declared.cmp.Ordering.{Ordering}

@@ -1,4 +1,4 @@
--- The text that a moment's number shows is that of its date, its time of day and its fraction.
+-- The text of a moment's number is the text of its date, its time of day and its fraction.
 use Rattle.std.proofs.Common.{◌≡◌, ℕ, ◌/◌, ◌%◌, ◌<◌, ◌++◌, ◌∷◌, [], Bool, true, false, cond, List, length, take, codes, refl, ap, arith, ℤ, pos, ◌+ℤ◌, ◌-ℤ◌, ◌*ℤ◌, ◌≤ℤ◌, unsigned_abs, sym, ◌∙◌}
 use Rattle.std.specs.Prelude.{◌==◌}
 use Rattle.std.proofs.lemmas.Bool.Decides.{nat_tests}
@@ -37,7 +37,7 @@ split_days k = omega (arith, signed_arith)
 fraction_of_day : (k : ℕ) → k % moments_per_day % moments_per_second ≡ k % moments_per_second
 fraction_of_day k = omega arith
 
--- a number is that of its day and its time of day
+-- a number is the number of its day and its time of day
 parts-number : (n : ℤ) (t : ℕ) → IsMomentNumber n → moment_of_day n ≡ t →
     pos moments_per_day *ℤ day_of_moment n +ℤ
     pos (time_number (t / moments_per_hour) (t % moments_per_hour / moments_per_minute)

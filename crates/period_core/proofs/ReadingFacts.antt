@@ -148,7 +148,7 @@ values-read values v after rest bytes h e =
     ∙ ap (λ (front : List ℕ). encoded values ++ (front ++ after)) (append-nil (encoded_value v))
     ∙ ap (λ (behind : List ℕ). encoded values ++ behind) e ∙ h
 
--- after the first value the encoding of the others follows
+-- after the first value the encoding of the rest follows
 pub rest-is_encoding : (v : Value) (rest bytes : List ℕ) →
     encoded_value v ++ rest ≡ bytes → IsEncoding bytes → IsEncoding rest
 rest-is_encoding v rest bytes e is = by is.0 is.1 is.2
@@ -170,7 +170,7 @@ first-of_encoding bytes some is = by is.0 is.1 is.2
     by (w ∷ values) all same =
         record { value = w; rest = encoded values; held = All-head IsColumnValue w values all; spelled = same }
 
--- bytes that no UTF-8 text spells are those of no value
+-- bytes that no UTF-8 text spells are no value's bytes
 pub text-not_utf8 : (text rest bytes : List ℕ) →
     escaped_text text ++ rest ≡ bytes → (IsUtf8 text → ⊥) → HasFirst (2 ∷ bytes) → ⊥
 text-not_utf8 text rest bytes e bad first = by first.value first.held first.spelled

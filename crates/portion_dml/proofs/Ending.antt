@@ -14,7 +14,7 @@ use Rattle.portion_dml.specs.Plans.{AreLeftCurrent}
 use Rattle.temporal_model.proofs.Members.{Contains-here, rest_of}
 use Rattle.temporal_model.proofs.Rearranged.{IsPermutation-uncons}
 
--- after some of the versions: those that were kept so far, and those that will be, are those that stay
+-- after some of the versions: those that stayed so far, and those that will, are all that stay
 pub record Passed (current : List VersionRow) (index : ℕ) (left : List VersionRow) (rows : List PeriodRow) (stay : List VersionRow) : Type 0 where
   pub kept : List VersionRow
   pub later : List VersionRow
@@ -76,7 +76,7 @@ module _ (current : List VersionRow) (index : ℕ) (left : List VersionRow) (row
             (IsPermutation-append_right passed.kept passed.later (version ∷ rest) moved));
       }
 
--- at the end the rows are those of the versions that stay, and those that are added
+-- at the end the rows are the rows of the versions that stay, and the added ones
 pub left_in_the_end : (current : List VersionRow) (plan : Plan) (index : ℕ) (left : List VersionRow) (first rows : List PeriodRow) (stay : List VersionRow) → length current ≤ index
     → IsPermutation current (plan.ended ++ stay) → Passed current index left first stay → rows ≡ first ++ plan.added → AreLeftCurrent current plan rows
 left_in_the_end current plan index left first rows stay past taken passed e =

@@ -53,7 +53,7 @@ module _ (conjuncts : List Cond) where
     ];
   }
 
-  -- adding behind other rows
+  -- adding after other rows
   pub Adds-behind :
       (InSet : ℤ → List Value → Type 0) (done old new : List PeriodRow) → Adds conjuncts InSet old new
       → Adds conjuncts InSet (done ++ old) (done ++ new)

@@ -20,7 +20,7 @@ gives_weaker Are Also conjuncts output rows step (pairs, are, given) = (pairs, s
 
 -- ---- one batch
 
--- the rows that the selection of more rows adds to that of those before
+-- the rows that the selection of more rows adds to the selection of the earlier ones
 abbrev pub SelectsMore : List Cond → List ℕ → List PeriodRow → List PeriodRow → List PeriodRow → Type 0
 SelectsMore conjuncts columns selected pairs rows =
     SnapshotsAre (λ day values. InSnapshot selected day values ⊎ InSelected conjuncts columns pairs day values) rows

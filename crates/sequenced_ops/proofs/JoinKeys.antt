@@ -29,7 +29,7 @@ use Rattle.sequenced_ops.specs.declared.equalities.Equality.{Equality}
 use Rattle.sequenced_ops.proofs.KnownTruths.{get-left, get-right}
 use Rattle.std.proofs.lemmas.List.Folds.{list_all_at}
 
--- ---- two sides that are equal are there and the same
+-- ---- two sides that are equal exist and are the same
 
 is_tie : (o : Ordering) → is_eq o ≡ true → o ≡ order.Equal
 is_tie order.Less e = cc
@@ -184,7 +184,7 @@ adds_alone condition first_part others width more before after is none new =
     ∙ ap (λ (t : Cond). meets t values) (sym is) ∙ met))
     (adds_none condition width more before) new
 
--- an AND holds only if its first part and the others do
+-- an AND holds only if its first part and the rest do
 and_is
     : (condition : Cond) (first_part : Box Cond) (others : Vec Cond) (values : List Value)
     → condition ≡ code.And first_part others → meets condition values ≡ true

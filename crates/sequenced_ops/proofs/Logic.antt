@@ -35,7 +35,7 @@ none_left h none = (
   λ t. elim (h.1 t) [ inl a ↦ a | inr b ↦ absurd (none b) ],
 )
 
--- nothing is there at first
+-- at first there is nothing
 pub none_before : {A B T : Type 0} → (A → ⊥) → (B ↔ T) → ((A ⊎ B) ↔ T)
 none_before none h = (
   λ x. elim x [ inl a ↦ absurd (none a) | inr b ↦ h.0 b ],

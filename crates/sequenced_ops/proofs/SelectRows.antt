@@ -20,7 +20,7 @@ append-nil : (l : List Value) → l ++ [] ≡ l
 append-nil [] = refl
 append-nil (x ∷ xs) = ap (λ (l : List Value). x ∷ l) (append-nil xs)
 
--- the projection of a set is that of the same set
+-- equal sets have equal projections
 pub projection_same
     : (columns : List ℕ) (A B : ℤ → List Value → Type 0) (rows : List PeriodRow)
     → ((day : ℤ) (values : List Value) → (A day values ↔ B day values))

@@ -117,7 +117,7 @@ seen_alike tables seen day all reference =
     (zip_at (λ rows active. AreActive rows active day) [] [] (AreActive-none day) tables (active_lists seen) reference.place
     (zip_map (λ rows active. AreActive rows active day) (λ (v : Vec (Bor PeriodRow)). v.items) tables seen all))
 
--- so the query's set by them is that of the day
+-- the query's set by the active rows is the day's set
 pub answered_alike :
     (tables : List (List PeriodRow)) (seen : ActiveLists) (day : ℤ) → AllAreActive tables seen day
     → (query : Query) (row : List Value) → (InQuery (VisibleInActive seen) query row ↔ InAnswerOver query tables day row)

@@ -1,4 +1,4 @@
--- Rows that are added to others: one pair more, one entry more, and the pairs of both sides.
+-- Rows that are added to a list: one pair more, one entry more, and the pairs of both sides.
 use Rattle.std.proofs.Common.{◌≡◌, ◌⊎◌, ◌≤ℤ◌, ◌<ℤ◌, ℕ, ℤ, true, false, List, [], ◌∷◌, ◌++◌, refl, sym, ◌∙◌, subst, inl, inr, arith}
 use Rattle.std.specs.List.{All, Contains}
 use Rattle.std.proofs.lemmas.Int.{ints, by_lt_z}
@@ -131,12 +131,12 @@ module _ (select : Select) (output : CombinedOutput) (first second : PeriodRow) 
     all = λ day row (can, (a, b, k)). snapshot_last rows added day row (one row k) (both day a b);
   }
 
--- the kept values are determined
+-- the values of a combined row are determined
 pub kept_one : (select : Select) (output : CombinedOutput) (values row other : List Value) → IsKept select output values row → IsKept select output values other → row ≡ other
 kept_one select Front values row other p q = sym p ∙ q
 kept_one select SelectList values row other p q = same_values row other (sym p.1 ∙ q.1)
 
--- ---- each of the others
+-- ---- each entry of the other side
 
 module _ (May Must : KeyedEntry → KeyedEntry → Sets) (entry : KeyedEntry) (old : List PeriodRow) where
   pub each_none : Adds (InEach May entry []) (InEach Must entry []) old old
@@ -185,7 +185,7 @@ sided_days :
 sided_days select output First entry other day row (can, (a, b, its)) = (a, b)
 sided_days select output Second entry other day row (can, (a, b, its)) = (b, a)
 
--- all others that begin within the entry are added with the partners
+-- all entries that begin within the entry are added with the partners
 pub partners_are_all :
     (select : Select) (output : CombinedOutput) (side : EntrySide) (entry : KeyedEntry) (others partners : List KeyedEntry) (rows new : List PeriodRow)
     → HasPeriod entry → All HasPeriod others

@@ -107,7 +107,7 @@ HasEndsAmong-more old lists rows days more has ends =
 abbrev pub HasChangeDays : List (List PeriodRow) → List ℤ → Type 0
 HasChangeDays lists days = (day : ℤ) → (Contains days day ↔ IsChangeDay lists day)
 
--- 0001-01-01, the ends of the rows of one list, and those of the others
+-- 0001-01-01, the ends of the rows of one list, and the ends of the rest's
 pub HasChangeDays-from :
     (rows : List PeriodRow) (lists : List (List PeriodRow)) (days more : List ℤ)
     → HasEnds (first_day ∷ []) rows days → HasEndsAmong days lists more → HasChangeDays (rows ∷ lists) more
@@ -125,7 +125,7 @@ HasChangeDays-from rows lists days more has next day =
 
 -- ---- the last change day up to a day
 
--- the greatest of these days that is no later than the day: none lies after it and up to the day
+-- the greatest of the days that is no later than the day: none lies after it and up to the day
 pub record IsLastUpTo (days : List ℤ) (day last : ℤ) : Type 0 where
   pub inside : Contains days last
   pub upto : last ≤ℤ day

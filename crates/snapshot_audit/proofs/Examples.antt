@@ -101,7 +101,7 @@ meeting-counted = record {
 
 -- ---- sets
 
--- values that two rows hold are there once in the set
+-- values that two rows hold are once in the set
 held_twice-once : ListsSet (InSnapshot (early ∷ whole ∷ []) (pos 2)) (seven ∷ [])
 held_twice-once = record {
   ascending = λ i j d lt below. absurd (omega arith);

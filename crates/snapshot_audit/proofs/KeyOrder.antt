@@ -165,7 +165,7 @@ by_key_from columns rows entries sorted are moved up = record {
 
 -- ---- the place of an entry
 
--- whether the entry precedes those of this key that begin on the day or later
+-- whether the entry precedes the entries of this key that begin on the day or later
 abbrev pub entry_before : List Value → ℤ → KeyedEntry → Bool
 entry_before key day entry = comes_before entry.key entry.period.start key day
 

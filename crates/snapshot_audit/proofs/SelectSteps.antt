@@ -16,7 +16,7 @@ use Rattle.snapshot_audit.specs.Selections.{IsSelected, InRest, InRests}
 
 -- ---- the values of items
 
--- the first element of a list and the others, as a pattern of a slice reads them
+-- the first element of a list and the rest, as a pattern of a slice reads them
 pub first_of : {X : Type 0} (xs : List X) (x : X) → 1 ≤ length xs → x ≡ get_or xs 0 x → xs ≡ x ∷ take (length xs - 1) (drop 1 xs)
 first_of [] x h e = absurd (omega arith)
 first_of (y ∷ ys) x h e =
@@ -91,7 +91,7 @@ rest_none Sees select front row = (
   λ (rest, none, its). subst (λ vs. IsSelected select vs row) (append-nil front) (subst (λ r. IsSelected select (front ++ r) row) none its),
 )
 
--- a combined row continues with a row of the first reference, and then with those of the others
+-- a combined row continues with a row of the first reference, and then with the later ones' rows
 pub rest_more :
     (seen : ActiveLists) (select : Select) (reference : QueryReference) (more : List QueryReference) (front row : List Value)
     → (InRests (VisibleInActive seen) select more front (active_for seen reference) row

@@ -39,7 +39,7 @@ columns_more width more left right old new below above within f s first second r
       subst (λ l. Reads l second (key ++ value ∷ [])) (sym s) (reads_push old.second.items (right - width) second key value q b),
     )
 
--- two sides that are equal are there and the same
+-- two sides that are equal exist and are the same
 is_tie : (o : Ordering) → is_eq o ≡ true → o ≡ order.Equal
 is_tie order.Less e = cc
 is_tie order.Equal e = refl

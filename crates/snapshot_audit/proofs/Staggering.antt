@@ -92,7 +92,7 @@ staggered_push rows row before all = all_pairs_push IsStaggered rows row all (λ
       | inr not_less ↦ let is : n ≡ k = omega arith in subst (λ m. IsStaggered (get_or rows m d) row) is last_before
     ])
 
--- of the sorted rows what is done and what is left, and those that are kept
+-- of the sorted rows what is done and what is left, and the rows that remain
 pub record AreKept (sorted done rest kept : List PeriodRow) : Type 0 where
   pub all : done ++ rest ≡ sorted
   pub ordered : AllPairs InRowOrder rest

@@ -25,8 +25,8 @@ fn last_holds(rows: &[PeriodRow], row: &PeriodRow) -> bool
     }
 }
 
-/// Rows with the same snapshots, in the order of their values, and those of the same values in the
-/// order of their starts and of their ends: without those that lie within another.
+/// Rows with the same snapshots, in the order of their values, and rows of the same values in the
+/// order of their starts and of their ends: without rows that lie within another.
 pub(crate) fn staggered(alloc: Global, rows: Vec<PeriodRow>) -> Result<Items<PeriodRow>, Memory>
     ensures staggered { IfOk result AreStaggered }
     ensures same { IfOk result (Equivalent rows.items) }

@@ -22,12 +22,12 @@ among_same : (a b : List ℕ) (ws : List (List ℕ)) → folded a ≡ folded b �
 among_same a b [] e = refl
 among_same a b (w ∷ ws) e = ap (λ (t : List ℕ). bytes_eq t (folded w) || is_among a ws) e ∙ ap (λ (c : Bool). bytes_eq (folded b) (folded w) || c) (among_same a b ws e)
 
--- case tells nothing
+-- case makes no difference
 pub reserved_same : (a b : List ℕ) → folded a ≡ folded b → is_reserved a ≡ is_reserved b
 unfolding is_reserved
 reserved_same a b e = among_same a b reserved e
 
--- ---- of the reserved words, those of about a length suffice
+-- ---- of the reserved words, the words of about a length suffice
 
 same_length : (a b : List ℕ) → folded a ≡ folded b → length a ≡ length b
 same_length a b e = sym (length-map a to_ascii_lowercase) ∙ ap length e ∙ length-map b to_ascii_lowercase
