@@ -25,7 +25,7 @@ row-count g history engine stands table rows are =
     let plain = length_permutation (map plain_version held.rows) (versions_of history table) held.left in
     sym (length-map rows (version_in table)) ∙ mine ∙ sym its ∙ length-map held.rows (version_in table) ∙ sym (length-map held.rows plain_version) ∙ sym plain
 
--- one count more
+-- the counts of the tables so far, with one table's more
 pub count-more : (history : History) (counts : List ℕ) (i count : ℕ) → length counts ≡ i → ((place : ℕ) → place < i → get_or counts place 0 ≡ version_count history (place + 1)) → count ≡ version_count history (i + 1) →
     (place : ℕ) → place < i + 1 → get_or (counts ++ count ∷ []) place 0 ≡ version_count history (place + 1)
 count-more history counts i count size so_far is =

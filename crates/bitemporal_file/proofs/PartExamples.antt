@@ -3,7 +3,7 @@ use Rattle.std.specs.Prelude.{◌≡◌, codes, refl}
 use Rattle.bitemporal_file.specs.declared.parts.Place.TheVariants.{Outside, InComment, Ended}
 use Rattle.bitemporal_file.specs.Parts.{EndsAtSemicolon, IsOpen, place_after_all}
 
--- at a semicolon
+-- a part ends at a semicolon
 statement-ends : EndsAtSemicolon (codes "AT 1;")
 statement-ends = (codes "AT 1", 59, refl, (λ is. cc), refl)
 

@@ -15,7 +15,7 @@ use Rattle.period_keys.specs.declared.block.Block.{Block}
 use Rattle.period_keys.specs.declared.placed_period.PlacedPeriod.{PlacedPeriod}
 use Rattle.period_keys.proofs.Members.{Any-append, Any-permutation, some_member}
 
--- some block has it
+-- some block has the period
 abbrev pub Has : PlacedPeriod → List Block → Type 0
 Has item blocks = Any (λ (block : Block). Contains block.items.items item) blocks
 
@@ -43,7 +43,7 @@ changed_block blocks i old new Gone inside is kept x (k, b, below, at, there) =
 pub in_changed : (blocks : List Block) (i : ℕ) (new : Block) (x : PlacedPeriod) → i < length blocks → Contains new.items.items x → Has x (set blocks i new)
 in_changed blocks i new x inside there = let size : length (set blocks i new) ≡ length blocks = length-set blocks i new in (i, new, omega arith, get_or-set_same blocks i new new inside, there)
 
--- one block more
+-- one block more leaves the periods that blocks have
 pub more_blocks : (blocks : List Block) (at : ℕ) (block : Block) (x : PlacedPeriod) → Has x blocks → Has x (insert blocks at block)
 more_blocks blocks at block x there =
     let P : Block → Type 0 = λ b. Contains b.items.items x in
@@ -101,7 +101,7 @@ pub in_parts : {X : Type 0} (xs sorted : List X) (n : ℕ) (x : X) → IsPermuta
 in_parts {X} xs sorted n x moved there =
     elim (Contains-append_cases (take n sorted) (drop n sorted) x (subst (λ (ys : List X). Contains ys x) (sym (take-append-drop n sorted)) (Contains-permutation xs sorted x moved there))) [ inl first ↦ inr first | inr second ↦ inl second ]
 
--- one element more is taken
+-- one element more of a list is taken
 pub taken : {X : Type 0} (xs : List X) (i : ℕ) (here x : X) → i < length xs → here ≡ get_or xs i here → Contains (take (i + 1) xs) x → Contains (take i xs) x ⊎ (here ≡ x)
 taken {X} xs i here x below is there =
     let more : take (i + 1) xs ≡ take i xs ++ here ∷ [] = take_more xs i here below ∙ ap (λ (y : X). take i xs ++ y ∷ []) (sym is) in

@@ -23,7 +23,7 @@ use Rattle.period_keys.specs.Equations.{both_equal}
 use Rattle.period_keys.specs.FixedKeys.{AreFew, AreSaidEqual, SaysEqual, SomeSaysEqual, has_side, has_sides}
 use Rattle.period_keys.proofs.Fixed.{both_true, each_met}
 
--- a comparison of two positions
+-- an equality of two positions says that they are equal
 pub test_equates : (condition : code.Tree CompareValues) (c : CompareValues) (left right : ℕ) → condition ≡ code.Test c → c.comparison ≡ Equal → c.left ≡ Position left → c.right ≡ Position right →
     (row : List Value) → meets condition row ≡ true → slice_get row left ≡ slice_get row right
 test_equates condition c left right is equal at_left at_right row met =
@@ -280,7 +280,7 @@ reached_more conditions place i known places new before below at kept found only
       few = few there before.few;
     }
 
--- all that the conditions say
+-- a walk that takes no more places has reached all that the conditions say are equal
 pub reached_all : (conditions : List (code.Tree CompareValues)) (place n : ℕ) (places : List ℕ) → Reached conditions place n places → length places ≤ n → (other : ℕ) → Contains places other ↔ AreSaidEqual conditions place other
 reached_all conditions place n places reached whole other = (reached.said other, there other)
   where

@@ -40,7 +40,7 @@ earlier_gap Old periods child found day until least held from before alone insid
   ];
 }
 
--- no earlier one
+-- one more child has no gap before the least day of the old ones
 pub no_earlier_gap : (Old : ℤ → Type 0) (periods : List Period) (child : Period) (found : Option ℤ) (day until : ℤ) → IsLeastOf Old found → IsHeldTo periods child day → until ≤ℤ day
     → (until ≡ child.end) ⊎ (found ≡ Some until) → IsLeastOf (λ other. Old other ⊎ IsGap periods child other) found
 no_earlier_gap Old periods child None day until least held past one = λ other h. elim h [

@@ -32,7 +32,7 @@ rows_in group = group.rows.items
 abbrev pub Entries : Type 0
 Entries = List (List Value × KeyRows)
 
--- the rows, without the keys
+-- the rows of groups, by their lists without the keys
 pub lists_of_groups : (es : Entries) → rows_of_lists (values_of es) ≡ rows_of_groups es
 lists_of_groups [] = refl
 lists_of_groups (e ∷ es) = ap (λ (xs : List VersionRow). rows_in e.1 ++ xs) (lists_of_groups es)

@@ -28,7 +28,7 @@ at_place rows item here found below same = (
 pub both_meet : (one other : Period) (day : ℤ) → BothHold day other one → Meets one other
 both_meet one other day ((other_from, other_to), (from, to)) = (omega (arith, ints), omega (arith, ints))
 
--- some row of some rows
+-- a row of a list that is not empty
 some_row : (rows : List VersionRow) → 0 < length rows → VersionRow
 some_row [] some = absurd (omega (arith, some))
 some_row (row ∷ rows) some = row

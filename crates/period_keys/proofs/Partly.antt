@@ -98,7 +98,7 @@ rows_joined all first second rows moved are =
     subst (λ (front : List PeriodRow). IsPermutation (map row_of all) (front ++ map row_of second)) are
     (subst (IsPermutation (map row_of all)) (map-append row_of first second) (IsPermutation-map row_of all (first ++ second) moved))
 
--- the indexes after rows went
+-- the indexes after rows are removed
 pub each_after_taken :
     (old new first rest : List VersionRow) (rows : List PeriodRow) (given after : List PeriodIndex) → IsPermutation old (first ++ rest) → IsPermutation new rest → map row_of first ≡ rows
     → ((left : List PeriodRow) → EachIndexes (rows ++ left) given → EachIndexes left after) → EachIndexes (map row_of old) given → EachIndexes (map row_of new) after

@@ -41,7 +41,7 @@ kept_up_to test xs n p upto within fails =
     let is : n + (p - n) ≡ p = omega arith in
     ap (λ k. filter test (take k xs)) (sym is) ∙ kept_to test xs n (p - n) (omega arith) (λ j d from below. fails j d from (omega arith))
 
--- sorted places
+-- sorted places rise from one to a later one
 sorted_upto : (places : List ℕ) (i k : ℕ) (d : ℕ) → IsSorted nat_cmp places → i ≤ k → k < length places → get_or places i d ≤ get_or places k d
 sorted_upto places i k d up upto below = ge_from_not_lt (get_or places k d) (get_or places i d) (sorted_far (λ x y. is_lt (nat_cmp x y)) (ranks_by nat_cmp_total (λ (n : ℕ). n)) places up i k d upto below)
 
@@ -81,7 +81,7 @@ quiet_after action rows places i next all passed past bound =
     ap (filter (touched action)) (sym (take_all (length rows) rows (omega arith)))
     ∙ kept_up_to (touched action) rows next (length rows) bound (omega arith) (λ j d low high. quiet action rows places i next j d all passed low high (λ k ge below is. omega arith))
 
--- one place more is passed
+-- a walk over sorted places has passed one more
 pub passed_more : (rows : List VersionRow) (places : List ℕ) (i next new : ℕ) → i < length places → ArePassed rows places i next → next ≤ new → (get_or places i 0 < new) ⊎ (length rows ≤ get_or places i 0) → ArePassed rows places (i + 1) new
 passed_more rows places i next new below passed upto one = λ k d lt.
     elim (cases_lt k i) [

@@ -108,7 +108,7 @@ position_without f places i here is =
     one : (x : ℕ) → f x ≡ None → filter_map f (x ∷ []) ≡ []
     one x e = rw e refl
 
--- the test of two places
+-- equal places pass the test of places
 pub same_place : (place i : ℕ) → place ≡ i → place == i ≡ true
 same_place place i e = grind (arith, nat_tests)
 

@@ -158,7 +158,7 @@ between (x ∷ p) lower upper (y ∷ k) (z ∷ l) from less leads below = by_ord
         (ap₂ (λ (v : Value) (vs : List Value). v ∷ vs) tied its.0, its.1)
     by_order others Greater is = absurd (false≢true (sym (ap (λ (r : Ordering). is_le (ordering_then r (values_cmp start k))) is) ∙ from))
 
--- a decided beginning
+-- a test of whether a key leads a list is `begins_with`
 pub begins_is : (b : Bool) (p k : List Value) → (IsTrue b ↔ Leads p k) → b ≡ begins_with p k
 begins_is b p k decides =
     both_ways b (begins_with p k) (λ is. (values_eq p (take (length p) k)).1 (decides.0 is)) (λ is. decides.1 ((values_eq p (take (length p) k)).0 is))

@@ -81,7 +81,7 @@ IsFaultBelow catalog before change count day =
 pub none_below : (catalog : List TableDef) (before : State) (change : Change) → IsLeastOf (IsFaultBelow catalog before change 0) None
 none_below catalog before change day (place, below, child, is, h) = omega (arith, below)
 
--- a loop's step
+-- the least gap of the children in the tables so far, with one table's more
 pub below_more : (catalog : List TableDef) (before : State) (change : Change) (place : ℕ) (child : TableDef) (found here new : Option ℤ) → slice_get catalog place ≡ Some child
     → IsLeastOf (IsFaultBelow catalog before change place) found → IsLeastOf (IsFaultOf catalog before change (place + 1) child) here → new ≡ earlier found here
     → IsLeastOf (IsFaultBelow catalog before change (place + 1)) new

@@ -105,7 +105,7 @@ turn rows n latest found more new first row order below place is_first is_row la
     (subst (IsLeastOf (λ day. RepeatsBelow rows n day ⊎ NewPair rows n day)) (sym new_is)
     (IsLeastOf-either (RepeatsBelow rows n) (NewPair rows n) found more so_far newest))
 
--- the entries passed are all
+-- a sweep that has passed all entries has found the least repeat
 pub found_all : (rows : List PeriodRow) (n : ℕ) (found : Option ℤ) → length rows ≤ n → (1 < n → n ≤ length rows) → IsLeastOf (RepeatsBelow rows n) found → IsLeastOf (Repeats rows) found
 found_all rows n found all bound so_far =
     IsLeastOf-same (RepeatsBelow rows n) (Repeats rows)

@@ -95,7 +95,7 @@ have_more_set tables place old new there more = record {
   same_rows : (x y : TableRows) → HasMoreIndexes x y → rows_by_key y ≡ rows_by_key x
   same_rows x y h = rw (h.positions, h.rows) refl
 
--- a table more
+-- tables with more indexes, and one table more
 pub have_more_last : (old tables : List TableRows) (table : TableRows) → HaveMoreIndexes old tables
     → (number : ℕ) (positions : List ℕ) → IsIndexedBy old number positions → IsIndexedBy (tables ++ table ∷ []) number positions
 have_more_last old tables table more zero positions (t, is, has) = cc
@@ -122,7 +122,7 @@ number_inside tables (suc place) t is =
     let inside : place < length tables = slice_get_within tables place t is in
     omega (arith, inside)
 
--- the table of a number
+-- the table of a number is at the place before it
 pub table_at : {T : Type 0} (tables : List T) (number : ℕ) (table here : T) → here ≡ get_or tables (number - 1) here → table_of tables number ≡ Some table → here ≡ table
 table_at tables zero table here is found = cc
 table_at tables (suc place) table here is found =

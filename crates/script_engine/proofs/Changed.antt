@@ -114,7 +114,7 @@ module _ {S : Type 0} (g : Ghosts S) (history : History) (old : EngineState S) (
     pub none_applies : (has_empty_row change.action ≡ true → ⊥) → NoneApplies (StatementApplies history s)
     none_applies days = of_history NoneApplies (none_without_empty old.catalog.tables (clock_of history) s is change.action sound empty days)
 
-    -- the change is not lawful
+    -- a change that is not lawful is refused by its fault in the history
     pub unlawful_in : (refusal : Refusal) → ResolvesChange old.catalog.tables s change → (has_empty_row change.action ≡ true → ⊥) → IsFault old.catalog.tables (last_state history) change refusal → IsUnlawful history s refusal
     unlawful_in refusal resolved days fault =
         let same = tables_of g history old kept in record {
@@ -206,6 +206,6 @@ module _ {S : Type 0} (g : Ghosts S) (history : History) (old : EngineState S) (
             },
           )
 
-      -- or the database fails
+      -- a failure of the database leaves the history as it was
       pub unchanged_step : (new : EngineState S) (refusal : Refusal) → HasContents g new kept.contents → IsStoreRefusal refusal → StepsTo g history s (Err refusal) new
       unchanged_step new refusal has failure = failed_step g history old new s refusal kept has failure none_holds

@@ -172,7 +172,7 @@ module _ (t : TableDef) (distinct : has_distinct_names t ≡ true) where
           let fits : is_of_column c.1.kind w.value ≡ true = fits_named c.0 c.1 w.column w.value (all-slice_get IsThere (value_columns t) a.position c there are_there) named kinds lengths in
           subst (λ (v : Value). is_of_column c.1.kind v ≡ true) (ap (λ (b : Assignment). b.value) same) fits
 
--- values with one set
+-- values of columns, one of them set anew, are values of the columns
 set_one : (columns : List (ℕ × Column)) (values : List Value) (n : ℕ) (v : Value) → are_of_columns columns values ≡ true → ((c : ℕ × Column) → slice_get columns n ≡ Some c → is_of_column c.1.kind v ≡ true) → are_of_columns columns (set values n v) ≡ true
 set_one [] [] n v are fits = refl
 set_one [] (w ∷ values) n v are fits = absurd (false≢true are)

@@ -75,7 +75,7 @@ distinct_along xs ys h =
 
 -- ---- ended rows
 
--- each ended row is one
+-- each ended row is found to be ended
 pub are_ended : (table : ℕ) (ended : List VersionRow) → All (λ (v : VersionRow). is_ended table ended (version_in table v) ≡ true) ended
 are_ended table ended place v inside =
     list_any_at (λ (row : VersionRow). same_version (version_in table row) (version_in table (get_or ended place v))) ended place v inside

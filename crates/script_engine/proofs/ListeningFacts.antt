@@ -13,7 +13,7 @@ heard_last : {L K : Type 0} (Hears : L → ℕ → K → Bool → L → Type 0) 
 heard_last Hears n old result false new heard = inl (heard, refl, refl)
 heard_last Hears n old result true new heard = inr (new, heard, (refl, refl))
 
--- one result more
+-- a listener hears one result more
 pub hears_more : {L K : Type 0} (Hears : L → ℕ → K → Bool → L → Type 0) (n at : ℕ) (old : L) (results : List K) (middle : L) (result : K) (goes_on : Bool) (new : L) →
     n + length results ≡ at → ReceivesAll Hears n old results true middle → Hears middle at result goes_on new → ReceivesAll Hears n old (results ++ result ∷ []) goes_on new
 hears_more Hears n at old [] middle result goes_on new counted (same, on) heard =

@@ -118,7 +118,7 @@ module _ (history : History) (c : Contents) (reference : QueryReference) (said :
       } in
       sees_rows history c reference (map row_of shown_rows) said are
 
-  -- values that the reference sees are as many as its value columns
+  -- rows that the reference sees have as many values as its table has value columns
   pub sees_width : (width : ℕ) → IsWidth c.tables reference.table width → SeesWidth history reference width
   sees_width width wide day values sees =
       let (row, among, same, on) = held (map row_of shown_rows) day values ((shown_seen.daily day values).1 sees) in
@@ -126,7 +126,7 @@ module _ (history : History) (c : Contents) (reference : QueryReference) (said :
       let whole : Contains held_rows version = (from_filter (λ (v : VersionRow). window_sees reference.window v.from v.to) held_rows version its).0 in
       sym (ap (λ (r : PeriodRow). length r.values) made ∙ ap length same) ∙ table_width c reference.table width said.good wide held_rows (said.versions reference.table).all version whole
 
-  -- and of their kinds
+  -- rows that the reference sees have values of its columns' kinds
   sees_kinds : IsKnown c.tables reference → (day : ℤ) (values : List Value) → VisibleInHistory history day reference values → has_kinds reference.kinds values ≡ true
   sees_kinds known day values sees =
       let (row, among, same, on) = held (map row_of shown_rows) day values ((shown_seen.daily day values).1 sees) in

@@ -153,7 +153,7 @@ past_count g history engine represents table =
 lost : (touched before after past forgotten later : ℕ) → before ≡ past → after ≡ later → past + touched ≡ later + forgotten → past ≤ later → lost_of touched before after ≡ forgotten
 lost touched before after past forgotten later was is all more = omega (arith, was, is, all, more)
 
--- no fewer have ended
+-- after a change no fewer versions have ended
 rise : (history : History) (change : Change) → clock_of history <ℤ forever → length (past_of history change.table) ≤ length (past_of (with_event history (Changed (clock_of history) change)) change.table)
 rise history change before =
     let past = ap (λ (vs : List PlainVersion). length (filter is_past vs)) (after_change history change) ∙ changed_past (clock_of history) change.action (not_forever (clock_of history) before) (versions_of history change.table) in
@@ -175,7 +175,7 @@ module _ {S : Type 0} (g : Ghosts S) (history last : History) (old new : EngineS
       (ap (λ (n : ℕ). length (past_of history change.table) + n) count ∙ changes_end_or_forget history change clock_before)
       (rise history change clock_before))
 
-  -- the table of a statement
+  -- the table that a statement names has one number, in the catalog and in the history
   found : (name : Name) (number : ℕ) → number_of (catalog_of history) name ≡ Some number → unwrap_or (number_of old.catalog.tables name) 0 ≡ number
   found name number there = ap (λ (o : Option ℕ). unwrap_or o 0) (ap (λ (ts : List TableDef). number_of ts name) (tables_of g history old was) ∙ there)
 

@@ -35,7 +35,7 @@ row tables clock v good = record {
 }
 
 module _ (tables : List TableDef) (clock : ℤ) where
-  -- the rows of a table
+  -- the rows of a table, of the versions of a store
   abbrev pub Rows : ℕ → List TableVersion → Type 0
   Rows table versions = (rows : List VersionRow) × (of_table table versions ≡ map (version_in table) rows)
 

@@ -25,7 +25,7 @@ use Rattle.script_engine.specs.engine.EngineState.{EngineState}
 use Rattle.script_engine.specs.engine.Runs.{MayRefuseQuery}
 use Rattle.script_engine.proofs.PlanFacts.{rows_given}
 
--- a refusal among more conditions
+-- a refusal whose condition holds is one among more conditions
 pub holds_before : (conditions more : List RefusalCondition) (refusal : Refusal) → Holds conditions refusal → Holds (conditions ++ more) refusal
 holds_before [] more refusal h = absurd h
 holds_before (first ∷ conditions) more refusal (inl h) = inl h

@@ -60,7 +60,7 @@ back_not_for_memory (inr (inr failed)) = let late : pos 5 ≤ℤ pos 4 = failed.
 
 -- ---- answers
 
--- the value 7
+-- the values of a row: 7
 abbrev seven : List Value
 seven = Int (pos 7) ∷ []
 

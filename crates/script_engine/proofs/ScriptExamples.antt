@@ -63,7 +63,7 @@ script_text = codes "SELECT * FROM T;a"
 abbrev semicolon : Lexeme
 semicolon = record { kind = Symbol; text = codes ";"; start = 15; end = 16 }
 
--- the tokens before it
+-- the tokens before the semicolon
 abbrev lookup : List Lexeme
 lookup =
     record { kind = Word; text = codes "SELECT"; start = 0; end = 6 }
@@ -72,7 +72,7 @@ lookup =
     ∷ record { kind = Word; text = codes "T"; start = 14; end = 15 }
     ∷ []
 
--- the token after it
+-- the token after the semicolon
 abbrev letter : List Lexeme
 letter = record { kind = Word; text = codes "a"; start = 16; end = 17 } ∷ []
 
@@ -116,7 +116,7 @@ letter_is_not_read : whole_read (statement_read 1) letter ≡ None
 unfolding statement_read later_statement_read query_statement_read stored_read
 letter_is_not_read = refl
 
--- nor is it too deep
+-- the letter is not too deep
 letter_shallow : IsTooDeep letter → ⊥
 unfolding room
 letter_shallow = some_shallow 32 letter 32 refl

@@ -21,7 +21,7 @@ use Rattle.sql_front.specs.Grammar.{ConditionBelow, IsCondition, IsConjunction, 
 use Rattle.sql_front.proofs.LiteralReadings.{comma_no_minus, readings_clock_moment, readings_date, readings_literal, readings_moment, readings_number, readings_tuple}
 use Rattle.sql_front.proofs.Readings.{NoFault, Readings, keyword_no_minus, name_no_minus, symbol_no_minus, readings_built, readings_choice, readings_enclosed, readings_fixed, readings_one, readings_optional, readings_preceded, readings_preceded_or_not, readings_repetition, readings_separated, readings_sequence, readings_of_token}
 
--- a keyword, then a language
+-- a keyword, and a language after it
 module _ {A : Type 0} (w : List ℕ) {E S Y : Language A} where
   after : Readings E S Y → Readings (Preceded (keyword w) E) (Preceded (keyword w) S) (Preceded (keyword w) Y)
   after r = readings_preceded (keyword_no_minus w) r
@@ -29,11 +29,11 @@ module _ {A : Type 0} (w : List ℕ) {E S Y : Language A} where
   after_or_not : Readings E S Y → Readings (PrecededOrNot (keyword w) E) (PrecededOrNot (keyword w) S) (PrecededOrNot (keyword w) Y)
   after_or_not r = readings_preceded_or_not (keyword_no_minus w) r
 
--- a comma, then a language
+-- a comma, and a language after it
 after_comma : {A : Type 0} {E S Y : Language A} → Readings E S Y → Readings (Preceded comma E) (Preceded comma S) (Preceded comma Y)
 after_comma r = readings_preceded comma_no_minus r
 
--- a list with commas
+-- a list of a language's parts with commas
 listed : {A : Type 0} {E S Y : Language A} → Readings E S Y → Readings (Separated comma E) (Separated comma S) (Separated comma Y)
 listed r = readings_separated comma_no_minus r
 

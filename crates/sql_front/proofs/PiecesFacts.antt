@@ -91,7 +91,7 @@ module _ {A : Type 0} (f : A → Lexeme) where
   span_after ts spans after span more pushed has =
       subst (HasSpans 0 ts) (sym (ap (λ (x : List Span). x ++ more) pushed ∙ append_assoc spans (span ∷ []) more)) has
 
-  -- one more span
+  -- the pieces of the spans so far, and one more
   pushed_pieces : (ts : List Lexeme) (spans after : List Span) (span : Span) (part : List Lexeme) (more : List (List Lexeme)) → after ≡ spans ++ span ∷ []
       → spanned ts span ≡ part → map (spanned ts) after ++ more ≡ map (spanned ts) spans ++ part ∷ more
   pushed_pieces ts spans after span part more pushed is =
@@ -112,7 +112,7 @@ module _ {A : Type 0} (f : A → Lexeme) where
       c.joined ∙ ap (λ (rest : List Lexeme). c.part ++ rest) (at_place tokens i d h) in
       subst (pieces.Joined (c.part ∷ parts)) (sym whole) joined
 
-  -- a semicolon after a piece
+  -- a semicolon after a piece adds the piece
   pub cut_piece : (tokens : List A) (start i : ℕ) (spans after : List Span) (d : A) → Cut tokens start i spans → i < length tokens
       → is_semicolon (f (get_or tokens i d)) ≡ true → start < i → after ≡ spans ++ record { start = start; end = i } ∷ [] → Cut tokens (i + 1) (i + 1) after
   cut_piece tokens start i spans after d c h semicolon some pushed =
@@ -133,7 +133,7 @@ module _ {A : Type 0} (f : A → Lexeme) where
         within = pushed_within (length tokens) spans after span pushed c.within (some, omega arith);
       }
 
-  -- a semicolon after no token
+  -- a semicolon after no token adds no piece
   pub cut_empty : (tokens : List A) (start i : ℕ) (spans : List Span) (d : A) → Cut tokens start i spans → i < length tokens
       → is_semicolon (f (get_or tokens i d)) ≡ true → i ≤ start → Cut tokens (i + 1) (i + 1) spans
   cut_empty tokens start i spans d c h semicolon none = record {
@@ -158,7 +158,7 @@ module _ {A : Type 0} (f : A → Lexeme) where
   to_end : (tokens : List A) (start i : ℕ) (spans : List Span) → Cut tokens start i spans → length tokens ≤ i → i ≤ length tokens → Cut tokens start (length tokens) spans
   to_end tokens start i spans c le ge = let e : i ≡ length tokens = omega arith in subst (λ (k : ℕ). Cut tokens start k spans) e c
 
-  -- the cut of all tokens
+  -- the spans are the cut of all tokens
   pub record AreCut (tokens : List A) (spans : List Span) : Type 0 where
     pub whole : HasPieces (map f tokens) (map (spanned (map f tokens)) spans)
     pub places : HasSpans 0 (map f tokens) spans

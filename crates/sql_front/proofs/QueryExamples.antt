@@ -30,7 +30,7 @@ column name = record { qualifier = None; name = name }
 abbrev pub column_of : List ℕ → List ℕ → ColumnReference
 column_of table name = record { qualifier = Some table; name = name }
 
--- a table without a window
+-- a table reference without a window
 abbrev pub table : List ℕ → Option (List ℕ) → TableReference
 table name new_name = record { table = name; window = None; new_name = new_name }
 

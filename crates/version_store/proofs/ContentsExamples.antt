@@ -22,7 +22,7 @@ february = record { table = 1; values = Int (pos 7) ∷ []; start = pos 31; end 
 abbrev filled : Contents
 filled = record { tables = []; clock = pos 9; versions = january ∷ february ∷ [] }
 
--- the two months as periods
+-- January and February as periods
 abbrev january_days : Period
 january_days = record { start = pos 0; end = pos 31; ordered = omega (arith, ints); days = (omega (arith, ints), omega (arith, ints)) }
 

@@ -29,7 +29,7 @@ use Rattle.version_store.specs.Written.{IsReadable, written_table, written_versi
 
 -- ---- definitions
 
--- bytes are of one definition
+-- bytes are of at most one definition
 pub same_written : (a b : TableDef) → IsReadable a → IsReadable b → written_table a ≡ written_table b → a ≡ b
 same_written a b ra rb same = same_definition a b (written_table a) ra (rb.0, rb.1, sym same)
 

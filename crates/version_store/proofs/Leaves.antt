@@ -231,7 +231,7 @@ module _ (table : ℕ) (values : List ℕ) (start from end to : ℤ) where
   one_moved db m n is one made =
       subst (λ l. Represents db (record m { versions = l ++ filter (λ v. not (same_key k v)) m.versions })) (all_become m.versions ∙ as_many (filter (same_key k) m.versions) n is one) made
 
-  -- none has it
+  -- if no version has the key, a change and a removal are the same
   pub none_moved : (db : Database) (m : Records) (n : ℕ) → n ≡ length (filter (same_key k) m.versions) → n ≡ 0 → Represents db (changed k (with_ends end to) m) → Represents db (removed k m)
   none_moved db m n is none made =
       subst (λ l. Represents db (record m { versions = map (with_ends end to) l ++ filter (λ v. not (same_key k v)) m.versions })) (none_left (filter (same_key k) m.versions) n is none) made

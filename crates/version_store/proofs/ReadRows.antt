@@ -38,7 +38,7 @@ none_at [] (suc place) none = refl
 none_at (l ∷ ls) zero none = none
 none_at (l ∷ ls) (suc place) none = none_at ls place none
 
--- a list more without rows
+-- one table more, without rows
 pub none_more : (ls : List (List VersionRow)) → ((number : ℕ) → rows_of_table ls number ≡ []) → (number : ℕ) → rows_of_table (ls ++ [] ∷ []) number ≡ []
 none_more ls none zero = refl
 none_more ls none (suc place) = none_at ls place (none (suc place))
@@ -134,7 +134,7 @@ all_behind : {A : Type 0} (P : A → Type 0) (xs : List A) (x : A) (ys : List A)
 all_behind P [] x ys all = all.0
 all_behind P (y ∷ xs) x ys all = all_behind P xs x ys all.1
 
--- a row more
+-- one row more is read
 pub one_read : (form : Form) (tables : List TableDef) (clock : ℤ) (rows rest left : List Row) (old new : List (List VersionRow)) (row : Row) (n : ℕ) (read : VersionRow) → AreReadBefore form tables clock rows rest old → rest ≡ row ∷ left
     → IsReadAs form tables clock row n read → HasMore n read old new → AreReadBefore form tables clock rows left new
 one_read form tables clock rows rest left old new row n read was next (v, is, good, same) more =

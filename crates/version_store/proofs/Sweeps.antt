@@ -140,7 +140,7 @@ flat_twice : {A B C : Type 0} (g : B → List C) (f : A → List B) (xs : List A
 flat_twice g f [] = refl
 flat_twice g f (x ∷ xs) = flat_map-append g (f x) (flat_map f xs) ∙ ap (λ l. flat_map g (f x) ++ l) (flat_twice g f xs)
 
--- the remains of remains
+-- the remains of a version's remains are its remains
 left_again : (table : ℕ) (moment : ℤ) (rows : List VersionRow) (row : VersionRow) (v : TableVersion) (a : Bool) → flat_map (remains_of table moment (row ∷ [])) (cond a (closed_at moment v) (v ∷ [])) ≡ cond (a || same_version (version_in table row) v) (closed_at moment v) (v ∷ [])
 left_again table moment rows row v true = began (is_eq (int_cmp v.from moment)) refl
   where

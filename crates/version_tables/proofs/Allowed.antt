@@ -204,7 +204,7 @@ pub fits_64 : (n : ℤ) → least_integer ≤ℤ n → n ≤ℤ greatest_integer
 fits_64 (pos n) low high = grind (arith, nat_tests, ints)
 fits_64 (negsuc n) low high = grind (arith, nat_tests, ints)
 
--- new rows are such rows
+-- new rows with their numbers are rows that the three tables may have
 pub numbers_own : (first : ℤ) (vs : List Version) → AllByRecursion (λ (v : Version). IsShort v.values) vs → least_integer ≤ℤ first → (first +ℤ pos (length vs)) ≤ℤ (greatest_integer +ℤ pos 1) → AllByRecursion IsOwnRow (number_from first vs)
 numbers_own first [] short low high = tt
 numbers_own first (v ∷ vs) short low high =

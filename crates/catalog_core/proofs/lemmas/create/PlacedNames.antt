@@ -60,7 +60,7 @@ none_where q p none (x ∷ xs) all =
 pub counted_cons : {X : Type 0} (p : X → Bool) (x : X) (xs : List X) → count_by p (x ∷ xs) ≡ cond (p x) 1 0 + count_by p xs
 counted_cons p x xs = sum_by-cons (λ y. cond (p y) 1 0) x xs
 
--- the element at a place
+-- a place within a list has an element
 pub at_place : {X : Type 0} (xs : List X) (i : ℕ) → i < length xs → (x : X) × (slice_get xs i ≡ Some x)
 at_place [] i here = absurd (omega (arith, here))
 at_place (x ∷ xs) zero here = (x, refl)

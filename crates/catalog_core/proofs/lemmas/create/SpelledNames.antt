@@ -292,7 +292,7 @@ five_tests tables d i x placed there =
           ∙ end_system at.column.kind (sym (sort_end at.column.name at.column.kind) ∙ at.sorted);
     }
 
--- a value column's place
+-- a value column's place has a column
 pub value_at : (d : TableDef) (i : ℕ) → is_value_place d i ≡ true → (x : Column) × (slice_get d.columns i ≡ Some x)
 unfolding is_value_place
 value_at d i value =
@@ -367,7 +367,7 @@ named_values tables d places placed within own =
     (all_values tables d places placed within
     (sym (any_mapped (λ name. is_no_value_column (create_of tables d) name) (own_name d (elements d)) places) ∙ own.value))
 
--- and their places
+-- the names of a reference's own columns have their places
 pub own_places : (tables : List TableDef) (d : TableDef) (places : List ℕ) → IsPlaced d → are_places (length d.columns) places ≡ true
     → map (own_place (create_of tables d)) (map (own_name d (elements d)) places) ≡ map Some places
 own_places tables d places placed within =

@@ -27,7 +27,7 @@ unfolding match_faults is_flawed_column
 side_flaws t (operand.Column r) = refl
 side_flaws t (operand.Literal value) = refl
 
--- of a comparison
+-- the faults of a comparison are its flaws
 pub compare_flaws : (t : TableDef) (c : Compare) → compare_faults (own_matches t) c ≡ faults_of (λ flaw. is_flawed_compare flaw t c)
 unfolding compare_faults is_flawed_compare
 compare_flaws t c = rw (side_flaws t c.left, side_flaws t c.right) refl
