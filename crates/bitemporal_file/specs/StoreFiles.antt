@@ -42,7 +42,7 @@ Finds image connection =
     HasCleanDisk (file_state connection)
     → IsOpened connection × FindsIn image (file_state connection)
 
--- why there is no connection to the database of the files, which held this
+-- why there is no connection to the database of the files with this content
 abbrev pub FailsToOpen : {D : Type 0} {g : Ghosts D} → Image → StoreEnd D g → RunFault → Type 0
 -- the system does not give the files, another program has them, or memory is out
 FailsToOpen image Unopened fault = (fault ≡ NoStore) ⊎ ((fault ≡ Locked) ⊎ (fault ≡ Memory))

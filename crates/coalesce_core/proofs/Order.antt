@@ -46,14 +46,14 @@ PrecedesWithGap-gap a b e gap =
     let less : a.period.start <ℤ b.period.start = omega (arith, ints) in
     (answer_cmp-same a b e ∙ int_cmp-Less a.period.start b.period.start less, λ _. gap)
 
--- a row of lesser values
+-- a row of lesser values precedes
 pub PrecedesWithGap-less : (a b : PeriodRow) → values_cmp a.values b.values ≡ Less → PrecedesWithGap a b
 PrecedesWithGap-less a b e = (
   ap (λ o. ordering_then o (int_cmp a.period.start b.period.start)) e,
   λ v. absurd (let tie : values_cmp a.values b.values ≡ Equal = subst (λ vs. values_cmp a.values vs ≡ Equal) v (values_cmp-refl a.values) in cc),
 )
 
--- rows of different values
+-- of two rows in order, with different values, the first precedes
 pub PrecedesWithGap-other : (a b : PeriodRow) → (a.values ≡ b.values → ⊥) → NotAfter a b → PrecedesWithGap a b
 PrecedesWithGap-other a b other h =
     elim (values_cmp a.values b.values) as (λ o. values_cmp a.values b.values ≡ o → PrecedesWithGap a b) [

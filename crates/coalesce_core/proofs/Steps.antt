@@ -81,7 +81,7 @@ Equivalent-nothing (row ∷ rows) p =
 
 -- ---- two rows
 
--- a row of the same values that begins within the first or at its end: the first, extended over it
+-- a row is extended over the next one, of the same values, that begins within it or at its end
 pub widened :
     (row next wide : PeriodRow) → row.values ≡ next.values
     → row.period.start ≤ℤ next.period.start → next.period.start ≤ℤ row.period.end

@@ -74,7 +74,7 @@ module _ {S : Type 0} (steps : S → Option PeriodRow → S → Type 0) (first :
         IsCoalescedOf-two (first ∷ m.merged) row next (m.holds (AllPairs-begin NotAfter (first ∷ m.merged) (next ∷ []) up)) (apart row next before alone);
   }
 
-  -- the source has ended
+  -- a call whose source has ended gives its last row
   pub Merges-end :
       (row : PeriodRow) (u v : S) → IsMerging steps first s row u → steps u None v
       → Merges steps first s row None v

@@ -487,7 +487,7 @@ name_kept id rows (inl is) = rw is (no_flag_kept (codes "STORE") rows (refl, (re
 name_kept id rows (inr (inl is)) = rw is (no_flag_kept (codes "FILE") rows (refl, (refl, (refl, (refl, (refl, (refl, tt)))))))
 name_kept id rows (inr (inr is)) = rw is (no_flag_kept (codes "wait") rows (refl, (refl, (refl, (refl, (refl, (refl, tt)))))))
 
--- the rows at the end
+-- the rows at the end of the walk, for the names and the given words
 pub record Says (rows : List Row) (names words : List Text) : Type 0 where
   pub store : (name : Text) (files : List Text) → names ≡ name ∷ files → first_of (codes "STORE") rows ≡ Some name
   pub files : unwrap_or (all_of (codes "FILE") rows) [] ≡ drop 1 names
@@ -508,7 +508,7 @@ says names flags rows found = record {
 
 -- ---- no fault at the end
 
--- a default is no fault
+-- the default of an argument is no fault
 abbrev IsFineDefault : Rule → Type 0
 IsFineDefault a = (is_empty a.defaults ≡ true) ⊎ (given_default_fault a a.defaults ≡ [])
 
@@ -680,7 +680,7 @@ no_other flag other (word ∷ rest) apart writes alone =
     let differs : bytes_eq other word ≡ false = elim (alone 0 word (omega arith)) [ inl is ↦ rw is apart | inr is ↦ rw is writes ] in
     rw differs (no_other flag other rest apart writes later)
 
--- nor is it set
+-- a flag that is alone sets no other flag
 not_set : (words : List Text) (flag other : Text) (is_set : Bool) → has_hyphen other ≡ true → bytes_eq other flag ≡ false → bytes_eq other (codes "--read-only") ≡ false → ExcludesOthers flag words
     → is_set ≡ is_among other words → is_set ≡ true → ⊥
 not_set words flag other is_set hyphen apart writes alone asks set =

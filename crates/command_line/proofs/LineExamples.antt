@@ -62,7 +62,7 @@ flag_is_false same = let wrong : codes "false" ≡ codes "true" = same_Some _ _ 
 chooses_no_audit : (count : Option ℕ) (source : Option ValueSource) (reading : Reading) → Chooses (Some (codes "run", one_value (codes "audit") (codes "false") count source reading ∷ [])) Run None
 chooses_no_audit count source reading = ((refl, flag_is_false), refl)
 
--- after FILE there is one
+-- `run` and FILE are chosen with one value
 chooses_file : (count : Option ℕ) (source : Option ValueSource) (reading : Reading) → Chooses (Some (codes "run", one_value (codes "FILE") (codes "a.sql") count source reading ∷ [])) Run (Some (codes "a.sql"))
 chooses_file count source reading = ((refl, no_flag), refl)
 

@@ -56,7 +56,7 @@ higher all bound hash place none is = record {
   ];
 }
 
--- and one less
+-- the last place of a hash stays if a later place has another hash
 lower : (all : List ℕ) (bound hash : ℕ) (place : Option ℕ) → ((d : ℕ) → get_or all bound d ≡ hash → ⊥) → IsLastPlace all (bound + 1) hash place → IsLastPlace all bound hash place
 lower all bound hash None none is = record {
   within = omega arith;

@@ -183,7 +183,7 @@ held_at list versions place d hold below =
     let same = ap length hold.same in
     hold.held place d (omega (arith, many, same))
 
--- a step down the chain
+-- the search follows the chain by one version
 pub found_step :
     (positions : List ℕ) (list : List PackedVersion) (hashes : List ℕ) (are : AreHashes positions list hashes) (all : length hashes ≡ length list) (window : Window) (key : List Value) (versions : List VersionRow) (hold : Hold list versions)
     (place : ℕ) (next : Option ℕ) (seen : List VersionRow) (found : Option VersionRow) → place < length hashes → ((e : ℕ) → get_or hashes place e ≡ hash_of key)

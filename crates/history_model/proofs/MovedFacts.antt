@@ -92,7 +92,7 @@ versions_moved : (database : Database) (table : ℕ) → versions_in (moved data
 versions_moved database zero = refl
 versions_moved database (suc place) = at_place database.versions place
 
--- and of its versions
+-- windows see the same versions after the move
 pub windows_stay : MovedWindowsStay
 windows_stay database window before table day =
     ap (λ (versions : List VersionRow). values_seen (moved_window window) versions day) (versions_moved database table)

@@ -93,7 +93,7 @@ versions-spelled given sorted same up =
     ap (λ n. count_bytes n ++ flat_map version_bytes (map plain_version sorted)) count
     ∙ ap (λ vs. count_bytes (length (map plain_version given)) ++ flat_map version_bytes vs) (sym (versions-in_order given sorted same up))
 
--- one piece more
+-- the bytes of one piece more are added to the sum's
 pub piece-more : {X : Type 0} (spelled : X → List ℕ) (xs : List X) (i : ℕ) (x : X) (bytes head : List ℕ) → i < length xs → x ≡ get_or xs i x
     → (bytes ++ (head ++ flat_map spelled (take i xs))) ++ spelled x ≡ bytes ++ (head ++ flat_map spelled (take (i + 1) xs))
 piece-more spelled xs i x bytes head within is =

@@ -97,7 +97,7 @@ module _ (log : List LogEntry) (at : ℕ) (h : IsNewestSavepoint log at) (s : Co
       ap (λ us. marked us s) split ∙ marked_append (take at log) (Savepoint ∷ post) s
       ∙ ap (λ l. marked (take at log) (before_all post s) ++ state_snapshot (before_all post s) ∷ l) (unmarked post s h.newest)
 
-  -- so there is a savepoint
+  -- a log with a savepoint has a mark
   pub is_marked : marked log s ≡ [] → ⊥
   is_marked none =
       let lengths = ap length (sym marks_split ∙ none) in

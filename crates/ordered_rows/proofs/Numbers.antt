@@ -64,7 +64,7 @@ counted count left is low = omega (arith, is, low)
 pub counted_above : (count left at : ℕ) → count ≡ min left most → at < count → at < left
 counted_above count left at is low = omega (arith, is, low)
 
--- the number on the right
+-- a row after the fork's row is found on the right
 pub past : (count left at : ℕ) → count ≡ min left most → count < at → at < most → (at ≡ left + suc (at - count - 1)) × (at - count - 1 < most)
 past count left at is over low = (omega (arith, is, over, low), omega (arith, low))
 

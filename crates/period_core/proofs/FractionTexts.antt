@@ -56,7 +56,7 @@ filled_at [] n k h = zeros_at n k (omega (arith, h))
 filled_at (digit ∷ more) n zero h = refl
 filled_at (digit ∷ more) n (suc k) h = filled_at more n k (omega (arith, h))
 
--- digits filled to six
+-- the digits of a fraction, filled to six
 abbrev six_bytes : List ℕ → List ℕ
 six_bytes digits =
     get_or digits 0 48 ∷ get_or digits 1 48 ∷ get_or digits 2 48 ∷ get_or digits 3 48 ∷

@@ -17,7 +17,7 @@ integer-before-text = refl
 text-before-date : value_cmp (Text (codes "zz")) (Date (neg_ℤ (pos 719_162))) ≡ Less
 text-before-date = refl
 
--- as integers 9 precedes 10
+-- texts are compared by bytes: '9' comes after '10'
 texts-by-bytes : value_cmp (Text (codes "9")) (Text (codes "10")) ≡ Greater
 texts-by-bytes = refl
 

@@ -134,7 +134,7 @@ pub fn range_of_key<T: ColumnTest>(
 /// that is part of a combined row: its values begin at `start`, and are `width` many. Each such row
 /// of a combined row that meets all conditions has its key in the range. What `range_of_key` has by
 /// what a condition says of a position this has by what one of the conditions says of its place, or
-/// of a place of which the conditions say that its value is equal.
+/// the condition says of a position, this uses what one of the conditions says of its place, or
 pub fn range_of_key_within(
     alloc: Global,
     conditions: &[Cond],

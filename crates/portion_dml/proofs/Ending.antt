@@ -39,7 +39,7 @@ module _ (current : List VersionRow) (index : ℕ) (left : List VersionRow) (row
   front : IsPermutation (version ∷ drop (index + 1) current) (left ++ passed.later)
   front = subst (λ l. IsPermutation l (left ++ passed.later)) here passed.ahead
 
-  -- the version ends
+  -- the next version ends
   pub passed_ended : (fewer : List VersionRow) → IsPermutation left (version ∷ fewer) → Passed current (index + 1) fewer rows stay
   passed_ended fewer taken = record {
     kept = passed.kept;
@@ -51,7 +51,7 @@ module _ (current : List VersionRow) (index : ℕ) (left : List VersionRow) (row
     whole = passed.whole;
   }
 
-  -- the version stays
+  -- the next version stays
   pub passed_kept : (Contains left version → ⊥) → Passed current (index + 1) left (rows ++ row_of version ∷ []) stay
   passed_kept absent =
       let there : Contains passed.later version =

@@ -135,13 +135,13 @@ keys_added conjuncts width more condition before after holds old new first secon
 
 -- ---- the keys of a condition by its parts
 
--- no key more
+-- a condition that is no equality adds no key
 pub adds_none
     : (condition : Cond) (width more : ℕ) (keys : List Equality)
     → AddsKeys condition width more keys keys
 adds_none condition width more keys first second rest e f met old = old
 
--- the key of a test
+-- a test that is an equality adds its key
 pub adds_test
     : (condition : Cond) (leaf : CompareValues) (width more : ℕ) (keys : List Equality)
     → (pair : Equality) → condition ≡ code.Test leaf
@@ -261,7 +261,7 @@ pairs_pruned conjuncts rows others kept pairs width more keys lefts rights are_k
           are.complete day before values rest e (first, second, a, there, equal, is) met;
     }
 
--- a join by no equality
+-- a join without equalities is of all pairs
 pub all_pairs_pruned
     : (conjuncts : List Cond) (rows others pairs : List PeriodRow)
     → IsPruned conjuncts 0 (InEqualPairs [] rows others) pairs

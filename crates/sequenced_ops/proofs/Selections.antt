@@ -27,7 +27,7 @@ row_accepted condition row rest met day vs = (
   ],
 )
 
--- the next row does not
+-- the next row does not meet the condition
 pub row_refused :
     (condition : Cond) (row : PeriodRow) (rest : List PeriodRow) → meets condition row.values ≡ false → (day : ℤ) (vs : List Value)
     → (InSelection condition (row ∷ rest) day vs ↔ InSelection condition rest day vs)

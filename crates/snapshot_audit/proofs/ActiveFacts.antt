@@ -58,7 +58,7 @@ AreActive-more rows active day row r is covers are other = (
   ],
 )
 
--- one more that does not
+-- one row more, which does not hold on the day
 pub AreActive-skip :
     (rows : List PeriodRow) (active : RowReferences) (day : ℤ) (row : PeriodRow) → (CoversDay row day → ⊥)
     → AreActive rows active day → AreActive (rows ++ row ∷ []) active day
@@ -72,7 +72,7 @@ AreActive-skip rows active day row none are other = (
 
 -- ---- the values of rows
 
--- one more row's values
+-- the active rows' values, with one more row's
 pub InActive-more :
     (set : List (List Value)) (active : RowReferences) (r : Bor PeriodRow)
     → ((values : List Value) → (Contains set values ↔ InActive active values)) → (values : List Value)

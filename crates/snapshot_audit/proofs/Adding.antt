@@ -37,7 +37,7 @@ adds_none May Must rows none = record {
   all = λ day row must. absurd (none day row must);
 }
 
--- once more
+-- rows that add sets twice add both together
 pub adds_more :
     (A M B N C O : Sets) (old mid new : List PeriodRow) → ((day : ℤ) (row : List Value) → A day row → C day row)
     → ((day : ℤ) (row : List Value) → B day row → C day row) → ((day : ℤ) (row : List Value) → O day row → (M day row ⊎ N day row))
@@ -54,7 +54,7 @@ adds_more A M B N C O old mid new first second split one two = record {
   ];
 }
 
--- adding to weaker sets
+-- rows that add sets add weaker ones
 pub adds_weaker :
     (A M C O : Sets) (old new : List PeriodRow) → ((day : ℤ) (row : List Value) → A day row → C day row)
     → ((day : ℤ) (row : List Value) → O day row → M day row) → Adds A M old new → Adds C O old new
@@ -72,7 +72,7 @@ adds_to_same A M old same new alike one = record {
   all = one.all;
 }
 
--- one row
+-- the snapshot of rows with one more
 pub snapshot_push :
     (rows : List PeriodRow) (row : PeriodRow) (day : ℤ) (values : List Value) → InSnapshot (rows ++ row ∷ []) day values
     → (InSnapshot rows day values ⊎ ((row.values ≡ values) × InPeriod row.period day))
@@ -99,7 +99,7 @@ snapshot_last rows row day values same inside =
 -- ---- a pair
 
 module _ (select : Select) (output : CombinedOutput) (first second : PeriodRow) (rows : List PeriodRow) where
-  -- the rows share no day
+  -- a pair of rows that share no day adds nothing
   pub pair_apart :
       ((day : ℤ) → InPeriod first.period day → InPeriod second.period day → ⊥)
       → Adds (InPair select output first second) (InMeetingPair select output first second) rows rows

@@ -62,7 +62,7 @@ HasEnds-more old rows days row has day = (
 abbrev pub HasEndsAmong : List ℤ → List (List PeriodRow) → List ℤ → Type 0
 HasEndsAmong old lists days = (day : ℤ) → (Contains days day ↔ (Contains old day ⊎ EndsAmong lists day))
 
--- more lists
+-- the ends of the rows of two parts of the lists
 pub HasEndsAmong-both :
     (old : List ℤ) (left right : List (List PeriodRow)) (days more : List ℤ) → HasEndsAmong old left days
     → HasEndsAmong days right more → HasEndsAmong old (left ++ right) more
@@ -83,7 +83,7 @@ HasEndsAmong-both old left right days more has next day = (
   ],
 )
 
--- the ends of one list
+-- the ends of the rows of one list
 HasEndsAmong-one : (old : List ℤ) (rows : List PeriodRow) (days : List ℤ) → HasEnds old rows days → HasEndsAmong old (rows ∷ []) days
 HasEndsAmong-one old rows days has day = (
   λ h. elim ((has day).0 h) [
@@ -96,7 +96,7 @@ HasEndsAmong-one old rows days has day = (
   ],
 )
 
--- one more list
+-- the ends of the rows of the lists so far, and one more
 pub HasEndsAmong-more :
     (old : List ℤ) (lists : List (List PeriodRow)) (rows : List PeriodRow) (days more : List ℤ)
     → HasEndsAmong old lists days → HasEnds days rows more → HasEndsAmong old (lists ++ rows ∷ []) more

@@ -26,7 +26,7 @@ first_of (y ∷ ys) x h e =
 abbrev pub some : Value → Option Value
 some v = Some v
 
--- one item more
+-- the select list's row so far, with one item more
 pub projected_more :
     (items : List AnswerColumn) (values row : List Value) (i : ℕ) (item : AnswerColumn) (value : Value) → i < length items
     → item ≡ get_or items i item → slice_get values item.position ≡ Some value → IsProjection (take i items) values row
@@ -36,7 +36,7 @@ projected_more items values row i item value h is there old =
     ∙ ap₂ (λ (a : List (Option Value)) (b : Option Value). a ++ b ∷ []) old (ap (λ (x : AnswerColumn). slice_get values x.position) (sym is) ∙ there)
     ∙ sym (map-append some row (value ∷ []))
 
--- an item without a value
+-- an item without a value gives no row
 pub no_value :
     (items : List AnswerColumn) (values row : List Value) (i : ℕ) (item : AnswerColumn) → i < length items
     → slice_get values (get_or items i item).position ≡ None → IsProjection items values row → ⊥
@@ -175,7 +175,7 @@ HasRests-all seen select reference more front old rows has row =
       λ h. (has row).1 (elim h [ inl was ↦ inl was | inr its ↦ inr (both.1 its) ]),
     )
 
--- once no reference is left
+-- the rows of a select if no reference is left
 pub rest_done :
     (Sees : VisibleRows) (select : Select) (front : List Value) (old rows : List (List Value))
     → ((row : List Value) → (Contains rows row ↔ (Contains old row ⊎ IsSelected select front row))) → (row : List Value)

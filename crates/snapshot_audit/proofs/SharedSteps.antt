@@ -23,7 +23,7 @@ use Rattle.snapshot_audit.specs.Pairs.{ReadSame}
 use Rattle.snapshot_audit.proofs.KeyOrder.{reads_push}
 use Rattle.snapshot_audit.proofs.Ruling.{slice_get-left, slice_get-right}
 
--- the columns of both positions
+-- the shared columns, with those at two more positions
 pub columns_more :
     (width more left right : ℕ) (old new : SharedColumns) → left < width → width ≤ right → right - width < more
     → new.first.items ≡ old.first.items ++ left ∷ [] → new.second.items ≡ old.second.items ++ (right - width) ∷ []
@@ -50,7 +50,7 @@ same_value None right e = absurd (cc)
 same_value (Some left) None e = absurd (cc)
 same_value (Some left) (Some right) e = (left, refl, ap (λ (v : Value). Some v) (sym (value_cmp-same left right (is_tie (value_cmp left right) e))))
 
--- the comparison of two positions
+-- an equality of two positions compares their values
 positions_compared :
     (test : CompareValues) (left right : ℕ) (row : List Value) → test.comparison ≡ Equal → test.left ≡ Position left → test.right ≡ Position right
     → compares row test ≡ true → compared Equal (slice_get row left) (slice_get row right) ≡ true
@@ -77,7 +77,7 @@ passes_at p xs i d inside all = elim (p (get_or xs i d)) as (λ b. p (get_or xs 
   | false ↦ λ e. absurd (let no : list_all p xs ≡ false = list_all_at p xs i d inside e in cc)
 ] refl
 
--- one condition more
+-- the shared columns of the conditions so far, and of one more
 pub condition_more :
     (select : Select) (width more i : ℕ) (condition : Tree CompareValues) (old new : SharedColumns) → i < length select.conjuncts
     → condition ≡ get_or select.conjuncts i condition → ReadSame select width more old

@@ -138,7 +138,7 @@ module _ (sorted done was rest kept : List PeriodRow) (row : PeriodRow) where
         )
       ]
 
-  -- a row that it holds
+  -- a row within the last one is left out
   pub kept_skip :
       was ≡ row ∷ rest → LastHolds kept row → AreKept sorted done was kept → AreKept sorted (done ++ row ∷ []) rest kept
   kept_skip is (last, there, same, ends) old =
@@ -176,7 +176,7 @@ kept_all sorted done rest kept none old =
 
 -- ---- the place of a row
 
--- the parts of `comes_before`
+-- `comes_before` of equal values compares the days
 pub before_same :
     (values others : List Value) (start day : ℤ) → values ≡ others → comes_before values start others day ≡ int_lt start day
 before_same values others start day same =

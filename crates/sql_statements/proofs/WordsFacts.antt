@@ -22,7 +22,7 @@ among_same : (a b : List ℕ) (ws : List (List ℕ)) → folded a ≡ folded b �
 among_same a b [] e = refl
 among_same a b (w ∷ ws) e = ap (λ (t : List ℕ). bytes_eq t (folded w) || is_among a ws) e ∙ ap (λ (c : Bool). bytes_eq (folded b) (folded w) || c) (among_same a b ws e)
 
--- case makes no difference
+-- words that differ in case alone are both reserved or not
 pub reserved_same : (a b : List ℕ) → folded a ≡ folded b → is_reserved a ≡ is_reserved b
 unfolding is_reserved
 reserved_same a b e = among_same a b reserved e

@@ -3,7 +3,7 @@ use Rattle.std.proofs.Common.{◌++◌, ◌∙◌, ℕ, List, [], Option, Some, 
 use Rattle.std.specs.Prelude.{OnOk}
 use Rattle.std.specs.Io.KnownBytes.{Appends, append_known}
 
--- before the first text
+-- the buffer before the first text
 pub kept-start : (known : Option (List ℕ)) → Appends known (append_known known []) []
 kept-start None = tt
 kept-start (Some xs) = refl

@@ -9,7 +9,7 @@ use Rattle.temporal_model.specs.Answer.{IsCertified, SameBeginning}
 use Rattle.temporal_model.specs.Laws.{MapsOneToOne}
 use Rattle.temporal_model.proofs.Certificate.{begins_in}
 
--- the row at a place
+-- a place within a list has a row
 row_at : {X : Type 0} (xs : List X) (i : ℕ) → i < length xs → (x : X) × (x ≡ get_or xs i x)
 row_at [] i h = absurd (omega arith)
 row_at (x ∷ xs) zero h = (x, refl)
