@@ -73,7 +73,7 @@ answers-copied made history line told bytes asked copy file is = rw asked (inl (
 pub answers-stopped : (made : List ℕ → List ℕ → Type 0) (history : History) (line told : List ℕ) (stopped : RunFault) → asked_in line ≡ Some Backup → IsBackupFault stopped → told ≡ refused_line (word_in line) (refusal_for stopped) (cause_of stopped) → IsAnswer made history line told
 answers-stopped made history line told stopped asked may is = rw asked (inr (refusal_for stopped, cause_of stopped, inl (stopped, may, refl, refl), is))
 
--- one whose file has no name
+-- a backup whose file has no name is answered
 pub answers-unnamed : (made : List ℕ → List ℕ → Type 0) (history : History) (line told : List ℕ) → asked_in line ≡ Some Backup → ¬ IsUtf8 (file_in line) → told ≡ refused_line (word_in line) NotUtf8 [] → IsAnswer made history line told
 answers-unnamed made history line told asked bad is = rw asked (inr (NotUtf8, [], inr (refl, bad, refl, refl), is))
 

@@ -182,7 +182,7 @@ mutual
 abbrev pub is_blank_so_far : List ℕ → Bool
 is_blank_so_far bytes = are_blank_from Outside (drop (byte_order_mark_size bytes) bytes)
 
--- so few bytes do not begin with it
+-- fewer than three bytes do not begin with the mark
 unmarked : (bytes : List ℕ) → length bytes < 3 → byte_order_mark_size bytes ≡ 0
 unmarked bytes few = rw (false_from_ne_true (starts_with nat_eq bytes byte_order_mark) (λ is. too_few (begins bytes is))) refl
   where

@@ -58,7 +58,7 @@ last-dot (first ∷ all) byte (other ∷ front) rest is =
 pub no_command-nil : (starts : Bool) → HasNoCommand starts []
 no_command-nil starts front rest is begins = omega (arith, ap length is, length-append front (dot ∷ rest))
 
--- one byte more that begins none
+-- one byte more begins no command
 pub no_command-more : (starts : Bool) (all : List ℕ) (byte : ℕ) → HasNoCommand starts all → (is_blank_so_far all && (begins_line starts all && (byte == dot))) ≡ false → HasNoCommand starts (all ++ byte ∷ [])
 no_command-more starts all byte none off front rest is begins = elim (last-dot all byte front rest is) [
   | inl found ↦

@@ -146,7 +146,7 @@ module _ {W K : Type 0} (contents : W → Option (List ℕ)) (text : ℕ → K �
         refused = λ refusal same. absurd (is_none_of_script fault refusal (its_own new.fault fault is may) (same_fault fault (Script refusal) same));
       }
 
-  -- without a fault of the report
+  -- a run that ended well is without a fault of the report
   pub quiet_of : (fault : Option RunFault) (ended : Result Bool RunFault) (flow : Bool) → IfSome fault (λ f. IsReportFault f × (ended ≡ Err f)) → ended ≡ Ok flow → fault ≡ None
   quiet_of None ended flow may is = refl
   quiet_of (Some f) ended flow may is = let wrong : ◌≡◌ {A = Result Bool RunFault} (Ok flow) (Err f) = sym is ∙ may.1 in let no : ⊥ = cc in absurd no

@@ -255,7 +255,7 @@ module _ {K : Type 0} where
           ];
     }
 
-    -- by a fault that is none of the report
+    -- a session ended by a fault that is none of the report
     pub failed_heard : (old : Reporter W) (turns : List (Turn K)) (goes_on : Bool) (fault : RunFault) (new : Reporter W) → new.fault ≡ None → Heard text status old (all_results turns) goes_on new → Written old turns new → EndsWith contents text status old turns (Err fault) new
     failed_heard old turns goes_on fault new quiet told wrote =
         ends_heard old turns goes_on (Err fault) new told wrote (rw quiet tt) (λ flow is. let no : ⊥ = cc in absurd no)
@@ -264,7 +264,7 @@ module _ {K : Type 0} where
     report_fault old turns goes_on fault new is told =
         its_own (λ (out : W). None) text status new.fault fault is (faulty_flow (λ (out : W). None) text status goes_on old new (all_results turns) fault is told)
 
-    -- by a fault of the report
+    -- a session ended by a fault of the report
     pub faulty_heard : (old : Reporter W) (turns : List (Turn K)) (goes_on : Bool) (fault : RunFault) (new : Reporter W) → new.fault ≡ Some fault → Heard text status old (all_results turns) goes_on new → Written old turns new → EndsWith contents text status old turns (Err fault) new
     faulty_heard old turns goes_on fault new is told wrote =
         ends_heard old turns goes_on (Err fault) new told wrote (its_fault (λ (out : W). None) text status new.fault fault is (faulty_flow (λ (out : W). None) text status goes_on old new (all_results turns) fault is told)) (λ flow same. let no : ⊥ = cc in absurd no)

@@ -38,7 +38,7 @@ rows-left g history engine stands table rows are =
     let here : IsPermutation (map plain_version rows) (map plain_version held.rows) = rw (plain_rows table rows, plain_rows table held.rows) at plain in
     IsPermutation-trans (map plain_version rows) (map plain_version held.rows) (versions_of history table) here held.left
 
--- so they spell what these spell
+-- the rows of a table spell what the history's versions spell
 pub rows-spelled : {S : Type 0} (g : Ghosts S) (history : History) (engine : EngineState S) (stands : EngineRepresents g history engine) (table : ℕ) (rows : List VersionRow) → AreRowsOf stands.contents table rows
     → versions_bytes (map plain_version rows) ≡ versions_bytes (versions_of history table)
 rows-spelled g history engine stands table rows are = versions-alike (map plain_version rows) (versions_of history table) (rows-left g history engine stands table rows are)

@@ -165,7 +165,7 @@ pub record EndsWith {W K : Type 0} (contents : W → Option (List ℕ)) (text : 
   pub written : new.fault ≡ None
       → Appends (contents old.out) (contents new.out) (turns_text text old.next turns)
   pub faulty : IfSome new.fault (λ fault. IsReportFault fault × (ended ≡ Err fault))
-  -- at its end, with --stop without a refusal; or at the first
+  -- the session is at its end, with --stop without a refusal; or at the first refusal
   pub whole : ended ≡ Ok true → old.stops ≡ true
       → All (λ result. status result ≡ 0) (all_results turns)
   pub stopped : ended ≡ Ok false

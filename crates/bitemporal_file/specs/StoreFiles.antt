@@ -26,7 +26,7 @@ use Rattle.bitemporal_file.specs.declared.stores.StoreEnd.{StoreEnd}
 use Rattle.bitemporal_file.specs.declared.stores.StoreEnd.TheVariants.{Unopened, Refused, GivenUp}
 use Rattle.bitemporal_file.specs.declared.stores.StoreEnd.TheVariants.{Closed, Unclosed}
 
--- as what a failure of the database library is reported
+-- the fault that a failure of the database library is reported as
 abbrev pub fault_for : Error → RunFault
 fault_for (SqliteFailure DatabaseBusy) = Locked
 fault_for (SqliteFailure CannotOpen) = NoStore

@@ -133,7 +133,7 @@ module _ {S K W : Type 0} (g : Ghosts S) (made : List ℕ → List ℕ → Type 
       (timed_refusal refused) contents (λ number timed. text number timed.kept)
       (λ timed. status timed.kept)
 
--- with an audit of each answer, or without; where the system makes files
+-- a run with an audit of each answer, or without; where the system makes files
 abbrev pub RunsAs : {S W : Type 0} → Ghosts S → (List ℕ → List ℕ → Type 0)
     → (W → Option (List ℕ)) → (audits timed : Bool)
     → List (Option (List ℕ)) → Option (List ℕ) → Bool → Reporter W → Held S
@@ -193,7 +193,7 @@ pub record IsInspected {S T W : Type 0} (g : Ghosts S) (contents : W → Option 
   pub told : OnOk ended (IsUsable g closed → (history : History)
       → DatabaseRepresents history (state g opened).now
       → Appends (contents old.out) (contents new.out) (report_asked inspection history))
-  -- or a write failed; or memory is out or the disk failed, and it got nothing
+  -- or a write failed; or memory is out or the disk failed, and the output got nothing
   pub fault : IfErr ended (λ fault. (fault ≡ Write) ⊎ (IsRefusalFault fault × (new.out ≡ old.out)))
 
 -- a store is opened, inspected and closed

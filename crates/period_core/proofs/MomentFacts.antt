@@ -45,7 +45,7 @@ parts-number : (n : ℤ) (t : ℕ) → IsMomentNumber n → moment_of_day n ≡ 
 parts-number n t h e =
     rw (split_time t, ← e) (split_days (moments_before n) ∙ sym (moments-counted n h).0)
 
--- so the texts of its day, of its time of day and of its fraction make its text
+-- the texts of its day, of its time of day and of its fraction make its text
 pub text-of-parts : (n : ℤ) → IsMomentNumber n → (date digits : List ℕ) →
     IsDayText (day_of_moment n) date → ShowsFraction digits (moment_of_second n) →
     IsMomentText n

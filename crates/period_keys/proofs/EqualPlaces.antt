@@ -143,7 +143,7 @@ count_stays : {X : Type 0} (p q : X → Bool) → ((x : X) → p x ≡ true → 
 count_stays p q further [] = omega arith
 count_stays p q further (x ∷ xs) = omega (arith, count_stays p q further xs, count_one p q further x, count_cons p x xs, count_cons q x xs)
 
--- one that did not count counts now
+-- if one element more passes a test, the count of passing ones grows
 count_grows : {X : Type 0} (p q : X → Bool) → ((x : X) → p x ≡ true → q x ≡ true) → (xs : List X) (k : ℕ) (x : X) → k < length xs → x ≡ get_or xs k x → p x ≡ false → q x ≡ true → count_by p xs + 1 ≤ count_by q xs
 count_grows p q further [] k x below at lacks has = absurd (omega (arith, below))
 count_grows p q further (y ∷ ys) zero x below at lacks has =
@@ -196,7 +196,7 @@ added_same conditions known i condition old so_far inside at nothing before = re
   few = before.few;
 }
 
--- one that says it of another place
+-- one condition more says that the place equals another
 pub added_more : (conditions : List (code.Tree CompareValues)) (known i : ℕ) (condition : code.Tree CompareValues) (other : ℕ) (old so_far new : List ℕ) → i < length conditions → condition ≡ get_or conditions i condition
     → SaysEqual condition known other → (Contains so_far other × (new ≡ so_far)) ⊎ ((Contains so_far other → ⊥) × (new ≡ so_far ++ other ∷ [])) → Added conditions known i old so_far → Added conditions known (i + 1) old new
 added_more conditions known i condition other old so_far new inside at says once before =

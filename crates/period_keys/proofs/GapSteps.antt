@@ -10,7 +10,7 @@ use Rattle.period_keys.specs.Gaps.{IsGap, IsHeld}
 abbrev pub IsHeldTo : List Period → Period → ℤ → Type 0
 IsHeldTo periods child day = (d : ℤ) → child.start ≤ℤ d → d <ℤ day → IsHeld periods d
 
--- so a gap of the child is no earlier
+-- a gap of a child that is held up to a day is no earlier than the day
 gap_from : (periods : List Period) (child : Period) (day other : ℤ) → IsHeldTo periods child day → IsGap periods child other → day ≤ℤ other
 gap_from periods child day other held (within, alone) = by_lt_z {P = day ≤ℤ other} other day (λ less. absurd (alone (held other within.0 less))) (λ ge. ge)
 
@@ -83,7 +83,7 @@ pub held_past : (periods : List Period) (held : Option Period) (start from : ℤ
 held_past periods None start from known inside d low high = absurd (inside d low high)
 held_past periods (Some period) start from known inside d low high = known d (inside d low high)
 
--- and of one that is known since
+-- a period that has been held since a day is known
 pub known_since : (periods : List Period) (held : Option Period) (start day : ℤ) → IfSome held (λ (period : Period). period.start ≡ start) → IfSome held (λ (period : Period). period.end ≡ day)
     → ((d : ℤ) → start ≤ℤ d → d <ℤ day → IsHeld periods d) → IfSome held (λ (period : Period). (d : ℤ) → IsWithin period d → IsHeld periods d)
 known_since periods None start day start_is end_is to = tt

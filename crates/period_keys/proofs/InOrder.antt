@@ -80,7 +80,7 @@ by_start xs m x day order below is le k d lt =
       | inr ge ↦ let here : k ≡ m = omega arith in let also : (get_or xs k d).start ≡ (get_or xs m d).start = ap (λ n. (get_or xs n d).start) here in omega (arith, ints)
     ]
 
--- and those from one on that starts later start later
+-- in a list in order, the elements after one that starts later than a day start later too
 pub from_start :
     (xs : List Period) (m : ℕ) (x : Period) (day : ℤ) → AreInOrder xs → m < length xs → x ≡ get_or xs m x → day <ℤ x.start
     → (k : ℕ) (d : Period) → m ≤ k → k < length xs → day <ℤ (get_or xs k d).start

@@ -42,7 +42,7 @@ made_equal_clash =
     let second : Traced = record { origin = Kept (worker (pos 2) (pos 3)); row = worker (pos 1) (pos 3) } in
     (first, second, Contains-here first (second ∷ []), Contains-there first (second ∷ []) second (Contains-here second []), numbers_apart, refl)
 
--- one row alone is of one origin
+-- a single row has one origin
 alone-lawful : OriginsShareKey (0 ∷ []) (traced (Update None (renumber ∷ []) None) (pos 12) (worker (pos 2) (pos 3) ∷ [])) → ⊥
 alone-lawful (a, b, in_a, in_b, apart, same) =
     let row : Traced = record { origin = Kept (worker (pos 2) (pos 3)); row = worker (pos 1) (pos 3) } in

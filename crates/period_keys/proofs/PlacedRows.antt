@@ -35,7 +35,7 @@ kept_to {X} test xs n (suc m) within fails =
     ∙ ap (λ (one : List X). filter test (take (n + m) xs) ++ one) (ap (λ b. cond b (x ∷ []) []) (fails (n + m) d (omega arith) (omega arith)))
     ∙ append-nil (filter test (take (n + m) xs)) ∙ kept_to test xs n m (omega arith) (λ j e from below. fails j e from (omega arith))
 
--- up to a place that is no earlier
+-- the elements that pass up to a place are all up to a later one, if none between passes
 pub kept_up_to : {X : Type 0} (test : X → Bool) (xs : List X) (n p : ℕ) → n ≤ p → p ≤ length xs → ((j : ℕ) (d : X) → n ≤ j → j < p → test (get_or xs j d) ≡ false) → filter test (take p xs) ≡ filter test (take n xs)
 kept_up_to test xs n p upto within fails =
     let is : n + (p - n) ≡ p = omega arith in

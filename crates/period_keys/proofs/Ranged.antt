@@ -352,7 +352,7 @@ in_range range positions values next first at above below =
     ap₂ (λ (a b : Bool). a && b) (begins positions leading values first)
     (ap₂ (λ (a b : Bool). a && b) (kept_above range.lower (slice_get values next) own moved above) (kept_below range.upper (slice_get values next) own moved below))
 
--- one without limits is if it begins so
+-- a key is in a range without limits if it begins with the range's leading values
 pub led_in_range : (range : KeyRange) (positions : List ℕ) (values : List Value) → values_at (take (length range.leading.items) positions) values ≡ range.leading.items → range.lower ≡ Unbounded → range.upper ≡ Unbounded → is_in_range range (values_at positions values) ≡ true
 led_in_range range positions values first lower upper =
     let own = slice_get (values_at positions values) (length range.leading.items) in

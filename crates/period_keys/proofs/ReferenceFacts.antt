@@ -63,7 +63,7 @@ fault_by_parent catalog before change number child reference parent found is lea
       λ (other, other_is, h). subst (λ p. Lacks p day) (definition_is other parent (sym other_is ∙ is)) h,
     )) found least
 
--- nor does one that neither is of the changed table nor refers to it
+-- a reference that neither is of the changed table nor refers to it has no fault
 pub fault_elsewhere : (catalog : List TableDef) (before : State) (change : Change) (number : ℕ) (child : TableDef) (reference : Reference) → IsLawfulState catalog before
     → table_of catalog number ≡ Some child → Contains child.references reference → (number ≡ change.table → ⊥) → (reference.parent ≡ change.table → ⊥)
     → IsLeastOf (λ day. IsFaultBy catalog before change number child day reference) None

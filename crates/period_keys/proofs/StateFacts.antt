@@ -67,7 +67,7 @@ table_with_clash catalog state number def rows (Some day) holds least some = (
   λ lawful. absurd (lawful.keys day ((clash_of_state (key_positions def) rows state number holds day).0 least.faulty)),
 )
 
--- nor is one with a reference that is not covered
+-- a table with a reference that is not covered is not lawful
 pub table_uncovered : (catalog : List TableDef) (state : State) (number : ℕ) (def : TableDef) (reference : Reference) → Contains def.references reference
     → (IsTrue false ↔ IsCoveredBy catalog state number def reference) → (IsTrue false ↔ IsLawfulTable catalog state number def)
 table_uncovered catalog state number def reference there law = (λ t. cc, λ lawful. law.1 (lawful.references reference there))

@@ -86,7 +86,7 @@ indexed_set tables place old new there more (suc place_of) positions (table, is,
       | inr other ↦ (table, set_elsewhere tables place place_of new other ∙ is, has)
     ]
 
--- one of the tables has more
+-- tables with more indexes, if one of them has more
 pub have_more_set : (tables : List TableRows) (place : ℕ) (old new : TableRows) → slice_get tables place ≡ Some old → HasMoreIndexes old new → HaveMoreIndexes tables (set tables place new)
 have_more_set tables place old new there more = record {
   same = map-set_same rows_by_key tables place new old (same_rows old new more ∙ sym (ap rows_by_key (get_or_from_slice_get tables place old old there)));
@@ -157,7 +157,7 @@ all_indexed catalog tables count all done (suc place) child is =
     let next : place + 1 ≡ suc place = omega arith in
     λ reference parent there parent_is. subst (λ (n : ℕ). IsIndexed tables n child reference parent) next (done place child (omega (arith, inside, all)) is reference parent there parent_is)
 
--- with a table more, whose references are indexed
+-- tables with one more, whose references are indexed
 pub with_table_indexed : (catalog : List TableDef) (old tables : List TableRows) (def : TableDef) (table : TableRows) → length old ≡ length catalog → ReferToEarlier (catalog ++ def ∷ [])
     → HaveMoreIndexes old tables → AreParentsIndexed catalog def tables → IsIndexedAsChild def table → HaveIndexes catalog old → HaveIndexes (catalog ++ def ∷ []) (tables ++ table ∷ [])
 with_table_indexed catalog old tables def table count earlier more parents children was zero child is reference parent there parent_is = cc

@@ -143,7 +143,7 @@ SaysEqual condition place other =
     × (((c.left ≡ Position place) × (c.right ≡ Position other))
     ⊎ ((c.right ≡ Position place) × (c.left ≡ Position other)))
 
--- one of the conditions says it
+-- one of the conditions says that the values at two places are equal
 abbrev pub SomeSaysEqual : List (Tree CompareValues) → ℕ → ℕ → Type 0
 SomeSaysEqual conditions place other =
     Any (λ condition. SaysEqual condition place other) conditions
@@ -177,7 +177,7 @@ abbrev pub has_side : List ℕ → Comparand → Bool
 has_side places (Position place) = list_any (λ other. other == place) places
 has_side places (Literal value) = false
 
--- both sides of a comparison are
+-- both sides of a comparison are among the places
 abbrev pub has_sides : List ℕ → Condition CompareValues → Bool
 has_sides places (any parts) = false
 has_sides places (all parts) = false

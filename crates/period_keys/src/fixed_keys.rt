@@ -132,9 +132,9 @@ pub fn range_of_key<T: ColumnTest>(
 
 /// The range that the conditions of a select leave of the key at these positions of a table's row
 /// that is part of a combined row: its values begin at `start`, and are `width` many. Each such row
-/// of a combined row that meets all conditions has its key in the range. What `range_of_key` has by
-/// what a condition says of a position this has by what one of the conditions says of its place, or
-/// the condition says of a position, this uses what one of the conditions says of its place, or
+/// of a combined row that meets all conditions has its key in the range. It is found as in
+/// `range_of_key`, by what one of the conditions says of a place, or of a place of which the
+/// conditions say that its value is equal.
 pub fn range_of_key_within(
     alloc: Global,
     conditions: &[Cond],

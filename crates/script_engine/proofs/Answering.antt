@@ -57,7 +57,7 @@ in_its_place history (first ∷ references) before (rows ∷ lists) placed each 
           (in_its_place history references (before ++ rows ∷ []) lists later each.1 reference more)
     ]
 
--- so each reference of a query in whose text they count up has the list of the rows that it sees
+-- each reference of a query in whose text they count up has the list of the rows that it sees
 pub have_seen : (history : History) (query : Query) (tables : List (List PeriodRow)) → are_in_place 0 (references_of query) ≡ true → EachSees history (references_of query) tables → HaveSeenRows history query tables
 have_seen history query tables placed each = in_its_place history (references_of query) [] tables placed each
 

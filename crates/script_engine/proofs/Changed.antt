@@ -152,7 +152,7 @@ module _ {S : Type 0} (g : Ghosts S) (history : History) (old : EngineState S) (
           (current_planned history kept.contents change plan kept.said over apart)
           (λ other off. other_tables change.table other kept.contents.clock plan.ended plan.added kept.contents off)
 
-      -- and the versions that have ended
+      -- the versions that have ended after the change are the store's
       ended_after : (lists : List (List PackedVersion)) → HaveDistinctKeys kept.contents.versions → HaveClosed change.table (closed_at old.clock plan.ended) old.ended lists → HaveEnded after lists
       ended_after lists apart closed =
           let c = kept.contents in

@@ -148,7 +148,7 @@ pruned_along conjuncts start A B rows same pruned = record {
   complete = λ day first values rest e h met. pruned.complete day first values rest e ((same day values).1 h) met;
 }
 
--- of the current rows in memory, those that are not ruled out
+-- of the current rows in memory, the rows that are not ruled out are needed
 pub current_needed : (history : History) (c : Contents) (tables : List RowsByKey) (conjuncts : Conditions) (start : ℕ) (reference : QueryReference) (rows : List PeriodRow) → AreOfHistory history c → HaveCurrentRows c tables → reference.window ≡ Now →
     IsPruned conjuncts start (InSnapshot (map row_of (rows_in tables reference.table))) rows → IsNeeded history conjuncts start reference rows
 current_needed history c tables conjuncts start reference rows said current now pruned =
@@ -262,7 +262,7 @@ module _ (tables : List (List PeriodRow)) (history : History) (day : ℤ) where
   sound_product conjuncts start (reference ∷ references) values (needs, (width, wide, more)) (first, rest, sees, others, is) =
       (first, rest, needs.sound day first sees, sound_product conjuncts (start + width) references rest more others, is)
 
-  -- and none is missing that is part of a row that meets the conditions
+  -- no needed row is missing that is part of a row that meets the conditions
   whole_product : (conjuncts : Conditions) (start : ℕ) (references : List QueryReference) (before values : List Value) → NeededIn tables history conjuncts start references → length before ≡ start → meets_all conjuncts (before ++ values) ≡ true →
       InProduct (VisibleInHistory history day) references values → InProduct (VisibleInTables tables day) references values
   whole_product conjuncts start [] before values needed long met h = h

@@ -202,7 +202,7 @@ other_points good = record {
 pub good_and_lawful : {db : sqlite.Database} (good : IsGoodStore AreConstrained db) → AreGood AreConstrained (its_contents good)
 good_and_lawful good = let fine = good_contents (other_points good) in record { clock = fine.clock; few = fine.few; lawful = fine.lawful; versions = fine.versions; constrained = good.constrained }
 
--- so a good store is one of the history to which nothing was done since it was opened
+-- a good store is one of the history to which nothing was done since it was opened
 pub good_history : {S : Type 0} (g : Ghosts S) (engine : EngineState S) (db : sqlite.Database) (good : IsGoodStore NoExtraCondition db) → AreConstrained (its_contents good) → HasContents g engine (its_contents good) →
     (history : History) × EngineRepresents g history engine
 good_history g engine db good lawful has =

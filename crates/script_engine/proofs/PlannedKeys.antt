@@ -148,7 +148,7 @@ last_false true true false d e = refl
 last_false true false c d e = refl
 last_false false b c d e = refl
 
--- of the current versions of a table the first is one, or it is not
+-- the first version of a table is a current one, or it is not
 first_seen : (table : ℕ) (v : TableVersion) (vs : List TableVersion) → HaveDistinctKeys (seen_of table Now (v ∷ vs)) →
     HaveDistinctKeys (seen_of table Now vs) × ((v.table == table) ≡ true → is_open v ≡ true → AreApartFrom v (seen_of table Now vs))
 first_seen table v vs apart = by_table (v.table == table) apart
@@ -268,6 +268,6 @@ module _ (history : History) (c : Contents) (change : Change) (plan : Plan) (sai
         (ascending_weaker (λ (a b : VersionRow). Differ (row_of a) (row_of b)) (λ (a b : VersionRow). same_version (version_in change.table a) (version_in change.table b) ≡ false) (keys_differ change.table) rows_now
         (ascending_from_map Differ row_of rows_now (all_differ (key_positions d) (map row_of rows_now) no_clash))))
 
-    -- so no two versions have one key
+    -- no two versions have one key
     pub planned_distinct : HaveDistinctKeys after.versions
     planned_distinct = joined change.table c.clock plan.added left (distinct_left change.table c.clock plan.ended c.versions apart) recorded_left distinct_now

@@ -62,7 +62,7 @@ days-given (first ∷ given) (row ∷ rows) e =
     let here : is_empty_row first ≡ false = grind (arith, ints, start, end, ordered) in
     rw here (days-given given rows tail)
 
--- so the rows of an action of which there is a plan have days
+-- the rows of an action of which there is a plan have days
 pub days-planned : (action : Action) (listed : List VersionRow) (plan : Plan) → Plans action listed plan → has_empty_row action ≡ false
 days-planned (Insert given) listed plan plans = days-given given plan.added (rows_given given listed plan plans)
 days-planned (Update portion assignments condition) listed plan plans = refl
@@ -102,7 +102,7 @@ pub failed_query : {S : Type 0} (g : Ghosts S) (old new : EngineState S) (s : St
 failed_query g old new s refusal (inl memory) = inl (inr memory)
 failed_query g old new s refusal (inr fault) = inr fault
 
--- one that is a failure of the store is due to a fault
+-- a refusal that is a failure of the store is due to a fault
 pub by_fault : {S : Type 0} (g : Ghosts S) (old new : Held S) (refusal : Refusal) → IsFailure g old new refusal → refusal ≡ Store → HasFault (state g old) (state g new)
 by_fault g old new refusal (inl memory) told = let no : Store ≡ Memory = sym told ∙ memory in absurd cc
 by_fault g old new refusal (inr fault) told = fault

@@ -106,7 +106,7 @@ lookup_is_read = refl
 lookup_spelled : IsStatement lookup looked_up
 lookup_spelled = spelled_if_read 0 lookup looked_up lookup_is_read refl refl refl
 
--- so no refusal applies to it: it has four tokens, no literal, and no parenthesis
+-- no refusal applies to the lookup: it has four tokens, no literal, and no parenthesis
 lookup_sound : NoneApplies (TextApplies lookup)
 unfolding room
 lookup_sound = sound_if_read 0 32 lookup looked_up lookup_is_read (omega arith) refl refl refl refl
@@ -133,7 +133,7 @@ of_text piece refusal short (inl least) = inl (record {
       ];
 })
 
--- so it is refused with 10
+-- the letter is refused with 10
 letter_refused : MayAnswer (TextApplies letter) Syntax
 letter_refused = of_text letter Syntax (λ long. omega arith) (no_statement letter letter_shallow (none_if_unread letter letter_is_not_read))
 
@@ -147,7 +147,7 @@ unfolding lacks_named number_of table_of_name
 lookup_step =
     inr (looked_up, lookup_sound, lookup_spelled, (inl (inl (first_least (stored_conditions [] looked_up) UnknownTable (lit≤ tt, (lit≤ tt, (lit≤ tt, (lit≤ tt, (lit≤ tt, (lit≤ tt, tt)))))) refl)), refl))
 
--- and the second as it is if it is checked
+-- the second piece is refused as it is if the script is checked
 run : IsRunOf script_text (Err UnknownTable ∷ Err Syntax ∷ [])
 run = record {
   pieces = lookup ∷ letter ∷ [];

@@ -110,7 +110,7 @@ rows_seen_hold history c table window rows said seen day values =
       λ through. Contains-permutation whole here values same (back through),
     )
 
--- so a reference sees the rows that it is handed
+-- a reference sees the rows that it is handed
 pub sees_rows : (history : History) (c : Contents) (reference : QueryReference) (rows : List PeriodRow) → AreOfHistory history c → AreRowsSeen c reference.table reference.window rows → SeesRows history reference rows
 sees_rows history c reference rows said seen =
     let holds = said.versions reference.table in

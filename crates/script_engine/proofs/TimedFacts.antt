@@ -31,7 +31,7 @@ same_clock g history engine represents = represents.stored.clock ∙ represents.
 
 module _ (spelled : ℤ → List Lexeme) (spells : (moment : ℤ) → IsClockMoment moment → NoneApplies (TextApplies (spelled moment)) × IsStatement (spelled moment) (statement.at moment)) where
   module _ (new : History) (pieces : List (List Lexeme)) (kept : List (Timed (Result Outcome Refusal))) (all : List (List Lexeme)) (results : List (Result Outcome Refusal)) (withs : AreWithAts spelled pieces kept all results) where
-    -- with one more piece in front
+    -- a run of timed pieces with one more piece in front
     first : (old middle : History) (piece : List Lexeme) (timed : Timed (Result Outcome Refusal)) → RunPieces middle all results new → TimedPieceStep PieceStep Err old piece timed middle →
         (more : List (List Lexeme)) × (told : List (Result Outcome Refusal)) × AreWithAts spelled (piece ∷ pieces) (timed ∷ kept) more told × RunPieces old more told new
     first old middle piece timed run (inl (refusal, may, is, same)) =

@@ -39,7 +39,7 @@ reads_system_element =
 abbrev IsSomePeriod : Language Element
 IsSomePeriod = Choice (Built system_element IsSystemElement) (Built period_element IsPeriodElement)
 
--- both begin with PERIOD FOR, and SYSTEM_TIME is no name
+-- both periods begin with PERIOD FOR, and SYSTEM_TIME is no name
 reads_some_period : Reads IsSomePeriod Any some_period_read
 unfolding some_period_read
 reads_some_period =

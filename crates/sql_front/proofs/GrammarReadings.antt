@@ -324,11 +324,11 @@ readings_statement n =
     (readings_choice (readings_built sequenced (readings_sequenced n))
     (readings_built stored (readings_stored n)))))))
 
--- without a fault, the statement that is read is spelled exactly
+-- if no literal has a fault, the statement that is read is spelled exactly
 pub spelled_exactly : (x : List Lexeme) (s : Statement) → NoFault x → Spells placeholders x s → Spells exact x s
 spelled_exactly x s f h = (h.0, ((readings_statement h.0).sharp x s f h.1).0)
 
--- and the one that is spelled exactly is read
+-- a statement that is spelled exactly is read
 pub exactly_read : (x : List Lexeme) (s : Statement) → Spells exact x s → Spells placeholders x s
 exactly_read x s h = (h.0, (readings_statement h.0).known x s h.1)
 

@@ -12,7 +12,7 @@ use Rattle.sql_front.specs.reading.Leaves.{name_read}
 use Rattle.sql_front.specs.reading.ElementReaders.{leading_names_read, more_names_read, one_more_name, second_is}
 use Rattle.sql_front.proofs.Loop.{Going, begins_some, going_fails, going_on, with_front}
 
--- one of the names after a comma
+-- the reader of one of the names after a comma
 abbrev pub next_name : Reader (List ℕ)
 next_name = preceded_read comma name_read
 

@@ -44,7 +44,7 @@ module _ {A : Type 0} (f : A → Lexeme) where
   or_false : (a b : Bool) → a ≡ false → b ≡ false → (a || b) ≡ false
   or_false a b e f = rw (e, f) refl
 
-  -- another token, which is no semicolon
+  -- a token that is no semicolon lengthens the piece
   pub cut_token : (tokens : List A) (start i : ℕ) (spans : List Span) (d : A) → Cut tokens start i spans → i < length tokens
       → is_semicolon (f (get_or tokens i d)) ≡ false → Cut tokens start (i + 1) spans
   cut_token tokens start i spans d so_far h plain =

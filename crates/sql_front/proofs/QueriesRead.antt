@@ -54,7 +54,7 @@ new_name_firsts = word (codes "AS") ∷ a_name ∷ []
 pub starts_new_name : Starts (any_of new_name_firsts) IsNewName
 starts_new_name = starts_preceded_or_not (keyword (codes "AS")) starts_name
 
--- before what is no new name
+-- a new name is read before tokens that begin none
 pub reads_new_name : (ends : List Sort) → all_differ ends new_name_firsts ≡ true → Reads (Optional IsNewName) (Next ends) new_name_read
 unfolding new_name_read
 reads_new_name ends e =

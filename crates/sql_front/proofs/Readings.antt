@@ -68,7 +68,7 @@ no_fault_back x y e f = record {
 -- ---- the three ways of reading
 
 pub record Readings {A : Type 0} (Exact Read Loose : Language A) : Type 0 where
-  -- without a fault, what is read is exact; and the text ends in no minus
+  -- if no literal has a fault, what is read is exact; and the text ends in no minus
   pub sharp : (x : List Lexeme) (a : A) → NoFault x → Read x a → Exact x a × (ends_in_minus x ≡ false)
   -- each exact reading is a reading
   pub known : (x : List Lexeme) (a : A) → Exact x a → Read x a

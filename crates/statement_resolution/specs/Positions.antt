@@ -44,7 +44,7 @@ compare_by place c =
     (side_by place c.right))
     (side_by place c.left)
 
--- in a row of a table
+-- a side of a comparison in a row of a table
 abbrev pub resolved_operand : TableDef → Operand → Option Comparand
 resolved_operand t side = side_by (λ (r : ColumnReference). value_position t r.name) side
 

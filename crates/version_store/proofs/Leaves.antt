@@ -131,7 +131,7 @@ module _ (table : ℕ) (moment : ℤ) (row : PeriodRow) (values : All IsColumnVa
     values = more_held c was.values;
   }
 
-  -- at the place of one that is to leave
+  -- a row is added at the place of one that is to leave
   pub replaces : (old now : Database) (key : Version) (before after : List VersionKey) (c : Contents) → HasExcept old table moment before c → is_pending table moment after new ≡ false
       → ((v : Version) → is_pending table moment before v ≡ (same_key key v || is_pending table moment after v))
       → ((m : Records) → Represents old m → Represents now (added new (removed key m))) → HasExcept now table moment after (added_at table moment (row ∷ []) c)
@@ -226,7 +226,7 @@ module _ (table : ℕ) (values : List ℕ) (start from end to : ℤ) where
   none_left [] n is none = refl
   none_left (v ∷ vs) n is none = absurd (omega (arith, is, none))
 
-  -- one has the key: it is as if it were removed and the other added
+  -- if one version has the key, a change is its removal and an addition
   pub one_moved : (db : Database) (m : Records) (n : ℕ) → n ≡ length (filter (same_key k) m.versions) → n ≡ 1 → Represents db (changed k (with_ends end to) m) → Represents db (added moved (removed k m))
   one_moved db m n is one made =
       subst (λ l. Represents db (record m { versions = l ++ filter (λ v. not (same_key k v)) m.versions })) (all_become m.versions ∙ as_many (filter (same_key k) m.versions) n is one) made

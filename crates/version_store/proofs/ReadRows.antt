@@ -47,7 +47,7 @@ pub no_lists : (number : ℕ) → rows_of_table [] number ≡ []
 no_lists zero = refl
 no_lists (suc place) = refl
 
--- without contents there are no versions
+-- the contents of no list are empty
 pub none_of_nothing : (lists : List (List VersionRow)) → lists ≡ [] → AreVersionsOf empty_contents lists
 none_of_nothing lists none number =
     let empty : rows_of_table lists number ≡ [] = ap (λ (l : List (List VersionRow)). rows_of_table l number) none ∙ no_lists number in

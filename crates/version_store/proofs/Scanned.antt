@@ -135,7 +135,7 @@ first_are form c table selection chooses ys n rows sure same up is =
 heads : (a b : Row) (xs ys : List Row) → ◌≡◌ {A = List Row} (a ∷ xs) (b ∷ ys) → (a ≡ b) × (xs ≡ ys)
 heads a b xs ys e = (cc, cc)
 
--- one row more shows one version more
+-- a query that gives one row more shows one version more
 last_shown : (table : ℕ) (given : List Row) (row : Row) (done : List TableVersion) → given ++ row ∷ [] ≡ as_given done → AllByRecursion (λ (v : TableVersion). (v.table == table) ≡ true) done → HaveColumnValues done
     → (d : List TableVersion) × (v : TableVersion) × (done ≡ d ++ v ∷ []) × (given ≡ as_given d) × AllByRecursion (λ (w : TableVersion). (w.table == table) ≡ true) d × HaveColumnValues d × (row ≡ shown (written_version v)) × ((v.table == table) ≡ true) × All IsColumnValue v.values
 last_shown table [] row [] e of held = absurd cc

@@ -16,7 +16,7 @@ use Rattle.version_tables.specs.Healthy.{IsShort}
 abbrev pub with_table : TableDef → Contents → Contents
 with_table definition c = record c { tables = c.tables ++ definition ∷ [] }
 
--- another clock
+-- the contents with another clock
 abbrev pub with_clock : ℤ → Contents → Contents
 with_clock moment c = record c { clock = moment }
 

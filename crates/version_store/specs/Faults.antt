@@ -7,7 +7,7 @@ use Rattle.version_store.specs.declared.fault.OpenFault.TheVariants.{BadStore, S
 use Rattle.version_store.specs.declared.fault.StoreFault.{StoreFault}
 use Rattle.version_store.specs.declared.fault.StoreFault.TheVariants.{Memory}
 
--- over an open connection: memory ran out, or there was a fault of the database since
+-- a fault over an open connection: memory ran out, or there was a fault of the database since
 abbrev pub IsCaused : State → State → StoreFault → Type 0
 IsCaused old new fault = IsTrue old.is_open → (fault ≡ Memory) ⊎ HasFault old new
 

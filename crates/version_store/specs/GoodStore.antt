@@ -82,7 +82,7 @@ pub record AreGood (Constrained : Contents → Type 0) (c : Contents) : Type 0 w
   pub versions : AllByRecursion (IsGoodVersion c.tables c.clock) c.versions
   pub constrained : Constrained c
 
--- no more is asked: the points 1 to 5 alone
+-- no condition more is asked: the points 1 to 5 alone
 abbrev pub NoExtraCondition : Contents → Type 0
 NoExtraCondition c = Unit {0}
 

@@ -40,7 +40,7 @@ store_state_code {S} store =
     (λ p. record { connection = p.0; catalog = p.1.0; clock = p.1.1 })
     (λ _. refl)
 
--- so far the disk has returned what was written, and no failure has shut the connection
+-- the disk has returned what was written so far, and no failure has shut the connection
 abbrev pub IsUsable : {S : Type 0} → Ghosts S → Held S → Type 0
 IsUsable g connection = HasCleanDisk (state g connection) × IsTrue (state g connection).is_open
 

@@ -73,6 +73,6 @@ module _ (others : Others) (apart : AllByRecursion IsApart others.tables) (tree 
   pub no_works : works (schema_with others) keys 0 tree olds news ≡ []
   no_works = none_over others.tables apart
 
--- so a write of one of the first trees is its one step
+-- a write of one of the first trees is its one step
 pub one_step_with : (others : Others) → AllByRecursion IsApart others.tables → (keys : Keys) (db next : Trees) (edit : Edit) → edit.table.tree < 4 → Writes (schema_with others) keys db edit (Ok next) → Applies (schema_with others) keys db edit next
 one_step_with others apart keys db next edit low writes = one_step (schema_with others) keys db next edit (no_works others apart edit.table.tree low keys (taken_by db edit) edit.news) writes

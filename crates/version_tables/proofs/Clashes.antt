@@ -36,7 +36,7 @@ use Rattle.version_tables.proofs.Shows.{pos_eq}
 abbrev pub agrees : Row → Row → Bool
 agrees s r = agree (version_index 3).order (1 ∷ 2 ∷ 3 ∷ 5 ∷ []) s (1 ∷ 2 ∷ 3 ∷ 5 ∷ []) r
 
--- another row of the same key
+-- two rows have the same key and are not one row
 abbrev pub rivals : Row → Row → Bool
 rivals s r = agrees s r && differ (rowid s) (rowid r)
 

@@ -19,7 +19,7 @@ two = Int (pos 2) ∷ []
 all-greater : HaveRoomFor (greatest_number - 2) (one ∷ two ∷ [])
 all-greater = record { rise = ((value_cmp-Int (pos 1) (pos 2), tt), (tt, tt)); low = (omega (arith, ints), (omega (arith, ints), tt)); high = (omega (arith, ints), (omega (arith, ints), tt)); few = omega arith }
 
--- and no more
+-- the rows have no room for one more
 no-more : HaveRoomFor (greatest_number - 1) (one ∷ two ∷ []) → ⊥
 no-more room = let high = room.high.1.0 in absurd (omega (arith, ints, high))
 
@@ -31,6 +31,6 @@ other-order room = absurd (let e = sym (value_cmp-Int (pos 2) (pos 1)) ∙ room.
 own-index : HasNoIndexOfOthers store_schema
 own-index = tt
 
--- one over the tree of bt_version is
+-- an index over the tree of bt_version is another program's
 index-over : HasNoIndexOfOthers (schema_with (record nothing_else { indexes = record (version_index 5) { name = codes "theirs" } ∷ [] })) → ⊥
 index-over bare = let far = bare.0 in absurd (omega (arith, far))

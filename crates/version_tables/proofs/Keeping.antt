@@ -167,7 +167,7 @@ module _ {at : ℕ} {table : Table} (own : IsOwn at table) where
         subst (λ s. KeepsOthers (record old.now { schema = s }) new.now) (sym has.schema_is)
         (rows_keep others has.apart old.step_limit (mode_of old) params old.now.trees command it.0 new.now edits rows)
 
-    -- by the clauses of `Transaction::execute`
+    -- a statement leaves the other tables, by the clauses of `Transaction::execute`
     pub statement_leaves : {S : Type 0} (g : Ghosts S) (old new : Held S) (r : Result ℕ Error) → (old.in_transaction ≡ false → (r ≡ Err (SqliteFailure TransactionState)) × (new ≡ old))
         → (HasCleanDisk (state g new) → IsTrue old.in_transaction → ExecutesInside 0 text params (state g old) (state g new) r) → OnOk r (LeavesOthers g old new)
     statement_leaves g old new (Err e) ended runs = tt

@@ -24,7 +24,7 @@ beside_notes = schema_with (record nothing_else { tables = notes ∷ [] })
 abbrev row : List ℕ → Row
 row bytes = Int (pos 1) ∷ Null ∷ Blob bytes ∷ []
 
--- one definition and one note
+-- a database with one definition and one note
 abbrev with_bytes : List ℕ → List ℕ → Database
 with_bytes definition note = record {
   schema = beside_notes;

@@ -92,7 +92,7 @@ none_other : (k v : Version) → same_key k v ≡ true → (vs : List Version) �
 none_other k v same [] apart = refl
 none_other k v same (w ∷ vs) apart = let one = key_same k v w same ∙ apart.0 in rw one (none_other k v same vs apart.1)
 
--- at most one of such versions has a given key
+-- at most one of versions with keys of their own has a given key
 pub one_of_key : (k : Version) (vs : List Version) → HaveOwnKeys vs → length (filter (same_key k) vs) ≤ 1
 one_of_key k [] own = omega arith
 one_of_key k (v ∷ vs) own = go (same_key k v) refl (one_of_key k vs own.1)

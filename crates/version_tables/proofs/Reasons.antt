@@ -117,7 +117,7 @@ module _ (text : List ℕ) (params : Row) (schema : Schema) (one : IsOne text (l
   not_refused e (inr (c, is, inr (inl (other, _)))) = other (subst (IsOne text (length params)) (known (Ok c) is) one).1
   not_refused e (inr (c, is, inr (inr (clock, _)))) = clock (subst IsPlain (known (Ok c) is) plain).1
 
--- and a query
+-- the reasons why a query fails
 module _ (text : List ℕ) (query : Query) (names : List (List ℕ)) (params : Row) (one : (others : Others) → IsOne text (length params) (understood (schema_with others) text))
     (asks : (others : Others) → (command_of (understood (schema_with others) text) ≡ Select (record { lets = []; body = query }) names) × (reads_listing (schema_with others) text ≡ false) × IsPlain (understood (schema_with others) text))
     (typed : (others : Others) → accepts_program (schema_with others) [] query params ≡ true) (never : NeverOverflows params query) (old new : State) (has : HasStoreTables old.now.schema) where

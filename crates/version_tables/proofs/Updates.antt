@@ -177,7 +177,7 @@ module _ (tests columns : List Term) (params : Row) (test : Row → Bool) (test_
         (filter-map is_spared version_shown olds ∙ ap (map version_shown) (sym left))
         (IsPermutation-filter is_spared _ _ was.says.versions)
 
-    -- once it is put back where its rowids are free
+    -- the versions after the changed rows are put back at free rowids
     pub put_shows : are_fresh (without_all olds (ids_of found)) (map again found) ≡ true → IsPermutation (map stored (map f (filter picks m.versions) ++ filter (λ v. not (picks v)) m.versions)) (map version_shown (put_all (without_all olds (ids_of found)) (map again found)))
     put_shows fresh =
         IsPermutation-trans _ _ _ (subst₂ IsPermutation (sym (map-append stored _ _)) (sym (map-append version_shown _ _)) (IsPermutation-append _ _ _ _ gone rest)) (IsPermutation-map version_shown _ _ (put_fresh (map again found) _ fresh))

@@ -30,7 +30,7 @@ AreFirst db table selection given =
     (records : Records) → Represents db records
     → (more : List Row) × AreShown records table selection (given ++ more)
 
--- all of such rows
+-- the rows are all that the query shows of a table
 abbrev pub AreAll : Database → ℕ → Selection → List Row → Type 0
 AreAll db table selection given =
     (records : Records) → Represents db records → AreShown records table selection given

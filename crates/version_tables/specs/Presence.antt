@@ -5,13 +5,13 @@ use Rattle.std.specs.List.{list_all, list_any}
 use Rattle.sqlite.specs.Schema.{Schema}
 use Rattle.sqlite_schema.specs.Names.{column_named, same_name, table_named}
 
--- none of them
+-- the schema has none of the three tables
 pub record HasNoStoreTable (s : Schema) : Type 0 where
   pub meta : table_named s (codes "bt_meta") ≡ None
   pub table : table_named s (codes "bt_table") ≡ None
   pub version : table_named s (codes "bt_version") ≡ None
 
--- all of them
+-- the schema has all of the three tables
 pub record HasEachStoreTable (s : Schema) : Type 0 where
   pub meta : IsSome (table_named s (codes "bt_meta"))
   pub table : IsSome (table_named s (codes "bt_table"))

@@ -66,7 +66,7 @@ AppliesOver catalog clock (statement.sequenced q) =
 AppliesOver catalog clock (statement.stored q) =
     Holds (stored_conditions catalog (statement.stored q))
 
--- in a history: over its tables and its clock
+-- the conditions of a statement in a history: over its tables and its clock
 abbrev pub StatementApplies : History → Statement → Refusal → Type 0
 StatementApplies history = AppliesOver (catalog_of history) (clock_of history)
 

@@ -28,6 +28,6 @@ IsAuditedRunFrom = IsRunBy AuditedPieceStep
 abbrev pub results_of : List Entry → List (Result Outcome Refusal)
 results_of entries = map (λ (entry : Entry). entry.result) entries
 
--- from a new store on
+-- an audited run from a new store on
 abbrev pub IsAuditedRunOf : List ℕ → List Entry → Type 0
 IsAuditedRunOf = IsAuditedRunFrom (opened new_database)

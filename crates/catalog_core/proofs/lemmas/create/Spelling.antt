@@ -54,16 +54,16 @@ name_or named other (Some x) = named x
 abbrev pub name_at : {X : Type 0} → (X → Name) → Name → List X → ℕ → Name
 name_at named other xs place = name_or named other (slice_get xs place)
 
--- of the first column of a sort
+-- the name of the first column of a sort
 abbrev pub name_of_sort : ColumnSort → Name → List ColumnElement → Name
 name_of_sort wanted other columns =
     name_or (λ (x : ColumnElement). x.name) other (find (is_of_sort wanted) columns)
 
--- of the table's own column at a place, by its columns as they are declared
+-- the name of the table's own column at a place, by its columns as they are declared
 abbrev pub own_name : TableDef → List ColumnElement → ℕ → Name
 own_name d columns place = name_at (λ (x : ColumnElement). x.name) d.name columns place
 
--- of a parent's column at a place
+-- the name of a parent's column at a place
 abbrev pub parent_name : TableDef → TableDef → ℕ → Name
 parent_name d parent place = name_at (λ (x : Column). x.name) d.name parent.columns place
 

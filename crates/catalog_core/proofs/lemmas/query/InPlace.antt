@@ -50,7 +50,7 @@ second_past place next bound all xs ys is reached past e =
     let h = past (ap (λ (n : ℕ). are_in_place n ys) (sym reached) ∙ parts.1) in
     omega (arith, h, reached, ap length is, length-append xs ys)
 
--- both are in place up to the bound
+-- both parts are in place up to the bound
 pub both_within
     : (place next end bound : ℕ) (all xs ys : List QueryReference) → all ≡ xs ++ ys
     → (are_in_place place xs ≡ true) × (place + length xs ≡ next) × (next ≤ bound)

@@ -38,7 +38,7 @@ loop-key-preserved-in-Continue-branch-2 c =
           ∙ sym (in_more range seen group (sym c.has.ensures ∙ c.if-has.true)),
     )
 
--- one whose key is passed over
+-- a group whose key is passed over
 pub loop-key-preserved : goal.loop-key-preserved
 loop-key-preserved c =
     let range = c.args.range.now in

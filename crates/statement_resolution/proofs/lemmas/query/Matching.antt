@@ -43,7 +43,7 @@ kind_push (m ∷ ms) x = refl
 pub matched_push : (ms : List SeenColumn) (x : SeenColumn) → matched (ms ++ x ∷ []) ≡ matched_more (matched ms) x
 matched_push ms x = rw (kind_push ms x, several_push ms x, period_push ms x) refl
 
--- one more column, which is named or is not
+-- the matches among the columns so far, and one more
 pub named_more : (r : ColumnReference) (xs : List SeenColumn) (i : ℕ) (x : SeenColumn) (before after : Matched)
     → i < length xs → x ≡ get_or xs i x → names_column r x ≡ true → before ≡ matched (matches_among (take i xs) r) → after ≡ matched_more before x
     → after ≡ matched (matches_among (take (i + 1) xs) r)

@@ -30,7 +30,7 @@ tables_in chains = flat_map chain_tables (map plain_chain chains)
 abbrev pub front_tables : List JoinChain → ℕ → List TableReference
 front_tables chains i = tables_in (take i chains)
 
--- of the first joins of a chain
+-- the tables of the first joins of a chain
 abbrev pub join_tables : List Join → List TableReference
 join_tables joins = map (λ (j : written.Join). j.reference) (map plain_join joins)
 

@@ -45,7 +45,7 @@ module _ (catalog : List TableDef) where
   before_any before other seen (j ∷ joins) =
       ap (either (condition_faults (seen_columns catalog (seen ++ j.reference ∷ [])) j.condition)) (before_any before other (seen ++ j.reference ∷ []) joins)
 
-  -- of the first joins of a chain
+  -- the faults of the first joins of a chain
   abbrev pub join_faults : TableReference → List Join → Faults
   join_faults first joins = faults_among (scoped_faults catalog) (chain_conditions [] (first ∷ []) (map plain_join joins))
 

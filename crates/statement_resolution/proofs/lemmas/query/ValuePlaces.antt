@@ -63,7 +63,7 @@ place_passed p q xs i x n whole here item none so_far =
     so_far ∙ ap (place_from p q n) (drop_at xs i x here item)
     ∙ ap (λ b. option_map (λ k. n + k) (position p (cond b (x ∷ filter q (drop (i + 1) xs)) (filter q (drop (i + 1) xs))))) none
 
--- at the beginning and at the end
+-- the place of a value column at the beginning and at the end
 pub place_begun : {X : Type 0} (p q : X → Bool) (xs : List X) → position p (filter q xs) ≡ place_from p q 0 xs
 place_begun p q xs =
     by (position p (filter q xs))

@@ -97,7 +97,7 @@ returns-then-not-columns_there-clause-bad g c clean on has = λ _ _.
     let all = store_has_columns (state g.S.Store c.args.connection.now).now.schema has in
     never (sym c.if-not-columns_there.true ∙ c.columns_there.ensures ∙ all)
 
--- and no two of its versions are of one key
+-- no two versions of a good store have one key
 pub returns-then-repeat_key-clause-bad : goal.returns-then-repeat_key-clause-bad
 returns-then-repeat_key-clause-bad g c clean on has = λ _ good.
     let old = (state g.S.Store c.args.connection.now).now in
