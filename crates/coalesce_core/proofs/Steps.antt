@@ -19,7 +19,7 @@ use Rattle.coalesce_core.proofs.Order.{PrecedesWithGap-gap, PrecedesWithGap-late
 pub ordered : (rows : List PeriodRow) → IsCoalesced rows → IsInAnswerOrder rows
 ordered rows h = λ i j d lt below. (h i j d lt below).0
 
--- of two rows in a coalesced list, one is before the other or they are one
+-- two rows in a coalesced list are one, or one of them is before the other
 pub placed :
     (rows : List PeriodRow) → IsCoalesced rows → (a b : PeriodRow) → Contains rows a
     → Contains rows b → PrecedesWithGap a b ⊎ (PrecedesWithGap b a ⊎ (a ≡ b))

@@ -87,7 +87,7 @@ module _ {S : Type 0} (steps : S → Option PeriodRow → S → Type 0) (first :
         record { equivalent = subst (λ rows. Equivalent rows (row ∷ [])) (sym same) one; coalesced = (IsCoalescedOf-one row).coalesced };
   }
 
--- ---- all calls
+-- ---- all calls of a coalescing stream
 
 module _ {S : Type 0} (steps : S → Option PeriodRow → S → Type 0) where
   -- a call with a row in hand

@@ -58,7 +58,7 @@ module _ {S : Type 0} (steps : S → Option PeriodRow → S → Type 0) where
 
 -- ---- all calls
 
--- of a run of a `Coalesce` and the underlying run of its source: what the one gave, with the row
+-- a run of a `Coalesce` and the underlying run of its source: what the one gave, with the row
 -- that is in hand, if there is one, is the coalesced list of what the other gave. If the one
 -- has ended, so has the other, and no row is in hand.
 pub record IsCoalescedRun {S T : Type 0} {steps : S → Option PeriodRow → S → Type 0}

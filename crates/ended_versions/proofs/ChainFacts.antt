@@ -19,7 +19,7 @@ at_other key q apart =
     by_ranked (key < q) (key ≡ q) (q < key) (nat_cmp key q) (ranked key q (nat_cmp key q) refl)
     (λ e less. ap is_eq e) (λ e same. absurd (apart same)) (λ e greater. ap is_eq e)
 
--- after a write at a key the map has there what was written, and else what it had
+-- after a write at a key the map has the written value there, and else what it had
 abbrev pub Writes : BTreeMap ℕ ℕ → BTreeMap ℕ ℕ → ℕ → Option ℕ → Type 0
 Writes last after key place = (q : ℕ) → get nat_cmp after q ≡ cond (is_eq (nat_cmp key q)) place (get nat_cmp last q)
 

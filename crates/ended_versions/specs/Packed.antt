@@ -33,7 +33,7 @@ pub record Hold (list : List PackedVersion) (versions : List VersionRow) : Type 
   pub same : map packed versions ≡ list
   pub held : AreOfColumns versions
 
--- all of them ended by the moment
+-- all versions ended by the moment
 abbrev pub AreEndedBy : ℤ → List PackedVersion → Type 0
 AreEndedBy moment = All (λ (version : PackedVersion). version.to ≤ℤ moment)
 

@@ -65,7 +65,7 @@ sees_same (FromTo a b) before from to =
 sees_same (Between a b) before from to =
     ap₂ (λ (s t : Bool). s && t) (le_same a b) (ap₂ (λ (s t : Bool). s && t) (le_same from b) (end_same a to before))
 
--- so it sees the same values, version by version
+-- a window sees the same values after the move, version by version
 seen_same : (window : Window) → BeginsBeforeOpenEnd window → (versions : List VersionRow) (day : ℤ)
     → values_seen (moved_window window) (map moved_version versions) day ≡ values_seen_then window versions day
 seen_same window before versions day =

@@ -72,7 +72,7 @@ MovedStatesStay =
     → state_at (opened (moved database)) (second_start second) table day
     ≡ values_at (versions_in database table) second day
 
--- and a window sees of its versions what it saw in seconds, whatever second it ends with
+-- a window sees of a moved history's versions what it saw in seconds, whatever second it ends with
 abbrev pub MovedWindowsStay : Type 0
 MovedWindowsStay =
     (database : Database) (window : Window) → BeginsBeforeOpenEnd window → (table : ℕ) (day : ℤ)

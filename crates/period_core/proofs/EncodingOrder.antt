@@ -27,7 +27,7 @@ then_assoc Less p q = refl
 then_assoc Equal p q = refl
 then_assoc Greater p q = refl
 
--- of two numbers of a high and a low part, the high parts decide, and then the low ones
+-- if two numbers have a high and a low part, the high parts decide, and then the low ones
 parts-cmp : (c p q a b : ℕ) → a < c → b < c →
     nat_cmp (p * c + a) (q * c + b) ≡ ordering_then (nat_cmp p q) (nat_cmp a b)
 parts-cmp c p q a b ha hb = elim (cases_lt p q) [

@@ -149,7 +149,7 @@ zero_shown : (us : ℕ) → ShowsFraction [] us → us ≤ 999_999 → 0 ≡ us
 unfolding six_of
 zero_shown us shows low = some_is 0 us (six_back 48 48 48 48 48 48 us shows.filled low)
 
--- and one that is shown is read
+-- a fraction that is shown is read
 pub fraction_found : (t digits : List ℕ) (us : ℕ) → ShowsFraction digits us → us ≤ 999_999
     → length t ≡ 19 + length (fraction_text digits) → drop 19 t ≡ fraction_text digits → fraction_at t ≡ Some us
 unfolding fraction_at

@@ -9,7 +9,7 @@ use Rattle.period_core.specs.Moments.{IsMoment, IsMomentNumber, IsMomentText, Sh
 count_is : (z : ℤ) → pos 0 ≤ℤ z → pos (unsigned_abs z) ≡ z
 count_is z h = omega (arith, signed_arith, h, one_part z)
 
--- so many moments come before a moment as its number is above the first's
+-- the moments before a moment are as many as its number is above the first's
 pub moments-counted : (n : ℤ) → IsMomentNumber n →
     (n ≡ first_moment +ℤ pos (moments_before n)) × (moments_before n < 315_537_897_600_000_000)
 moments-counted n h =

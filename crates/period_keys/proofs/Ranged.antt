@@ -318,7 +318,7 @@ get_here : (xs : List Value) (v : Value) (ys : List Value) → slice_get (xs ++ 
 get_here [] v ys = refl
 get_here (x ∷ xs) v ys = get_here xs v ys
 
--- the value after them is the one at the next position
+-- the value after the leading ones is at the next position
 next_value : (positions : List ℕ) (leading values : List Value) (next : ℕ) (v : Value) → values_at (take (length leading) positions) values ≡ leading → slice_get positions (length leading) ≡ Some next → slice_get values next ≡ Some v
     → slice_get (values_at positions values) (length leading) ≡ Some v
 next_value positions leading values next v first at is =

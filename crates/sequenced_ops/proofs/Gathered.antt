@@ -11,7 +11,7 @@ use Rattle.sequenced_ops.specs.declared.outputs.JoinOutput.TheVariants.{Pairs}
 use Rattle.sequenced_ops.proofs.Added.{Adds-behind, Adds-both}
 use Rattle.sequenced_ops.proofs.TwoRows.{holds-append}
 
--- of other pairs too, where what is known of the pairs says so
+-- rows that come of pairs come of other pairs too, if what is known of the pairs says so
 pub gives_weaker :
     (Are Also : List PeriodRow → Type 0) (conjuncts : List Cond) (output : JoinOutput) (rows : List PeriodRow)
     → ((pairs : List PeriodRow) → Are pairs → Also pairs)

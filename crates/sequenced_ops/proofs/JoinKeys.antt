@@ -283,7 +283,7 @@ and_true : (b : Bool) → b ≡ true → (b && true) ≡ true
 and_true true e = refl
 and_true false e = cc
 
--- of pairs that lack none that meets the condition those that meet it
+-- the pairs that meet the condition, of pairs that lack none that meets it
 pub joined_selection
     : (condition : Cond) (left right pairs : List PeriodRow)
     → IsPruned (condition ∷ []) 0 (InPairs left right) pairs → (day : ℤ) (values : List Value)

@@ -53,7 +53,7 @@ key_of (Int number ∷ values) = record { lead = number; rest = values }
 key_of (Text text ∷ values) = record { lead = pos 0; rest = Text text ∷ values }
 key_of (Date day ∷ values) = record { lead = day; rest = Date day ∷ values }
 
--- by the lead, then by the rest
+-- the order of keys: by the lead, then by the rest
 abbrev pub key_cmp : JoinKey → JoinKey → Ordering
 key_cmp a b = ordering_then (int_cmp a.lead b.lead) (values_cmp a.rest b.rest)
 

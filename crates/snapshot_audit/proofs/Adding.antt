@@ -64,7 +64,7 @@ adds_weaker A M C O old new first second one = record {
   all = λ day row must. one.all day row (second day row must);
 }
 
--- to rows of the same snapshots
+-- sets that are added to rows are added to any rows with the same snapshots
 pub adds_to_same : (A M : Sets) (old same new : List PeriodRow) → Equivalent old same → Adds A M same new → Adds A M old new
 adds_to_same A M old same new alike one = record {
   kept = λ day row h. one.kept day row ((alike day row).0 h);

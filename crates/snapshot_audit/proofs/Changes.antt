@@ -28,7 +28,7 @@ HasEnds-none old day = (
   λ h. elim h [ inl k ↦ k | inr ends ↦ absurd (Contains-nil ends.0 ends.1) ],
 )
 
--- one more row's start and end
+-- the ends of rows, with one more row's start and end
 pub HasEnds-more :
     (old : List ℤ) (rows : List PeriodRow) (days : List ℤ) (row : PeriodRow) → HasEnds old rows days
     → HasEnds old (rows ++ row ∷ []) ((days ++ row.period.start ∷ []) ++ row.period.end ∷ [])

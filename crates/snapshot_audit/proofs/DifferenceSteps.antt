@@ -66,7 +66,7 @@ module _ (query : Query) (lists : List (List PeriodRow)) (answer : List PeriodRo
     differs = λ h. (is_day, (values, differs));
   }
 
-  -- one more row: its start and its end
+  -- the differences, with one more row's start and end
   pub checks_row :
       (rows : List PeriodRow) (row : PeriodRow) (least mid then result : Option ℤ) → Checks query lists answer (ChangesOn rows) least mid
       → Checks query lists answer (IsAt row.period.start row.values) mid then → Checks query lists answer (IsAt row.period.end row.values) then result

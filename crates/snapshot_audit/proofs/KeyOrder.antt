@@ -212,7 +212,7 @@ entry_between entry entries first last from to other (key, starts, ends) k insid
   ],
 )
 
--- so it is in the list from the first to the last
+-- an entry between the first and the last is in the list
 pub contains_between :
     (entries : List KeyedEntry) (first last : ℕ) (other : KeyedEntry) (k : ℕ) → first ≤ k → k < last → k < length entries → get_or entries k other ≡ other
     → Contains (take (last - first) (drop first entries)) other

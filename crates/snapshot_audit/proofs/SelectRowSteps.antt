@@ -81,7 +81,7 @@ module _ (tables : List (List PeriodRow)) (select : Select) (reference : QueryRe
         ),
   )
 
--- from one row of no values over all days
+-- the rows of a select, from one row of no values over all days
 pub rest_all :
     (tables : List (List PeriodRow)) (select : Select) (front : PeriodRow) (result : List PeriodRow) → front.values ≡ []
     → front.period.start ≡ first_day → front.period.end ≡ last_day

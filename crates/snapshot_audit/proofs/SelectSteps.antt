@@ -164,7 +164,7 @@ HasRests-skip seen select more front old rows active r has none =
       ],
     ))
 
--- once all rows of the first reference are done
+-- the rows of a select once all rows of the first reference are done
 pub HasRests-all :
     (seen : ActiveLists) (select : Select) (reference : QueryReference) (more : List QueryReference) (front : List Value)
     (old rows : List (List Value)) → HasRests seen select more front old (active_for seen reference) rows → (row : List Value)
@@ -186,7 +186,7 @@ rest_done Sees select front old rows step row =
       λ h. (step row).1 (elim h [ inl was ↦ inl was | inr its ↦ inr (both.1 its) ]),
     )
 
--- of all references, from no values on
+-- the rows of a select from all references, from no values on
 pub selected_all :
     (seen : ActiveLists) (select : Select) (old rows : List (List Value)) → old ≡ []
     → ((row : List Value) → (Contains rows row ↔ (Contains old row ⊎ InRest (VisibleInActive seen) select select.references [] row)))

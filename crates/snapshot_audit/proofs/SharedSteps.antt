@@ -59,7 +59,7 @@ positions_compared test left right row is one two met =
     (subst (λ (l : Comparand). compared Equal (side_value l row) (side_value test.right row) ≡ true) one
     (subst (λ (k : Comparison). compared k (side_value test.left row) (side_value test.right row) ≡ true) is met))
 
--- of an equality the columns if one is of each side
+-- the shared columns, with an equality's if one is of each side
 pub test_more :
     (width more : ℕ) (test : CompareValues) (left right : ℕ) (old mid new : SharedColumns) → test.comparison ≡ Equal → test.left ≡ Position left
     → test.right ≡ Position right → ReadsMore width more (IsSameAt left right) old mid → ReadsMore width more (IsSameAt right left) mid new

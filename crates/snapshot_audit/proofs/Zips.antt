@@ -41,7 +41,7 @@ zip_weaker R S step [] (y ∷ ys) r = absurd r
 zip_weaker R S step (x ∷ xs) [] r = absurd r
 zip_weaker R S step (x ∷ xs) (y ∷ ys) r = (step x y r.0, zip_weaker R S step xs ys r.1)
 
--- at each place, if the relation holds of the defaults too
+-- a relation of two lists holds at each place, if it holds of the defaults too
 pub zip_at :
     {A B : Type 0} (R : A → B → Type 0) (d : A) (e : B) → R d e → (xs : List A) (ys : List B) (place : ℕ)
     → AllZip R xs ys → R (get_or xs place d) (get_or ys place e)
@@ -51,7 +51,7 @@ zip_at R d e none (x ∷ xs) [] place r = absurd r
 zip_at R d e none (x ∷ xs) (y ∷ ys) zero r = r.0
 zip_at R d e none (x ∷ xs) (y ∷ ys) (suc place) r = zip_at R d e none xs ys place r.1
 
--- by what is related to the second
+-- a relation of two lists, the second by its images
 pub zip_map :
     {A B C : Type 0} (R : A → C → Type 0) (f : B → C) (xs : List A) (ys : List B)
     → AllZip (λ x y. R x (f y)) xs ys → AllZip R xs (map f ys)

@@ -85,7 +85,7 @@ Related {A} R L lexemes b = (a : A) × R a b × L lexemes a
 abbrev pub Denotes : {A : Type 0} → A → (Lexeme → Bool) → Language A
 Denotes a test = Built (λ (nothing : Unit {0}). a) (Fixed test)
 
--- the one or the other
+-- one language or the other
 abbrev pub Choice : {A : Type 0} → Language A → Language A → Language A
 Choice L M lexemes a = L lexemes a ⊎ M lexemes a
 

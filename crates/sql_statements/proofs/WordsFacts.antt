@@ -8,7 +8,7 @@ use Rattle.std.proofs.lemmas.List.{length-map}
 use Rattle.std.proofs.lemmas.Slice.Eq.{bytes_eq-Decides}
 use Rattle.sql_statements.specs.Words.{folded, is_among, reserved, is_reserved}
 
--- one of the words that the program has in memory
+-- a text is one of the words that the program has in memory
 pub among_texts : (text : List ℕ) (words : List (Bor (List ℕ))) → list_any (λ (word : Bor (List ℕ)). bytes_eq (folded text) (folded word.now)) words ≡ is_among text (map (λ (word : Bor (List ℕ)). word.now) words)
 among_texts text [] = refl
 among_texts text (word ∷ words) = ap (λ (b : Bool). bytes_eq (folded text) (folded word.now) || b) (among_texts text words)

@@ -74,7 +74,7 @@ pub record IsGoodStore (Constrained : Contents → Type 0) (db : Database) : Typ
   -- 6: keys and references
   pub constrained : Constrained (in_microseconds form contents)
 
--- contents, in microseconds, of which the points 2 to 4 and 6 hold: 5 holds of what a database has
+-- contents, in microseconds, for which the points 2 to 4 and 6 hold; point 5 is of a database
 pub record AreGood (Constrained : Contents → Type 0) (c : Contents) : Type 0 where
   pub clock : IsClock Microseconds c.clock
   pub few : length c.tables ≤ most_tables

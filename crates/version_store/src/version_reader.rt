@@ -40,7 +40,7 @@ fn moment_at(row: &Row, form: Form, at: usize) -> Option<Moment>
     form.moment(number_at(row, at)?)
 }
 
-/// The moment at which a system time ends whose end is at a place of a row.
+/// The end of a system time, which a row has at a place.
 fn end_at(row: &Row, form: Form, at: usize) -> Option<Moment>
     ensures { MatchOption result (¬ ((n : ℤ) × IsNumberAt row.now at n × IsNumberIn form n))
         (λ moment. (n : ℤ) × IsNumberAt row.now at n × (moment ≡ end_in form n)) }

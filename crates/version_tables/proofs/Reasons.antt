@@ -31,7 +31,7 @@ use Rattle.version_tables.proofs.Asks.{meta_asks, meta_names, meta_order, meta_p
 use Rattle.version_tables.proofs.Texts.{select_is, select_query}
 use Rattle.version_tables.proofs.Whole.{whole}
 
--- ---- the text is one statement, of so many parameters
+-- ---- the text is one statement, with a number of parameters
 
 abbrev pub IsOne : List ℕ → ℕ → Result Compiled CompileError → Type 0
 IsOne text count (Ok c) = (nat_le (length text) c.tail ≡ true) × (count ≡ length c.names)
