@@ -233,7 +233,7 @@ module _ {W K : Type 0} (contents : W → Option (List ℕ)) (text : ℕ → K �
 
 -- ---- runs that came to their ends
 
--- the run continues where it does not stop
+-- the run continues if it does not stop
 pub went_on : (goes_on : Bool) → ◌≢◌ {A = Result Bool RunFault} (Ok goes_on) (Ok false) → goes_on ≡ true
 went_on true on = refl
 went_on false on = absurd (on refl)

@@ -166,7 +166,7 @@ IsAnswer made history line told =
     ⊎ ((refusal : Refusal) × (cause : List ℕ) × IsRefusedFor line command refusal cause
     × (told ≡ refused_line (word_in line) refusal cause)))
 
--- a line is answered so, where the system makes files, and the history stays
+-- a line is answered so, if the system makes files, and the history stays
 abbrev pub IsAnswered : (List ℕ → List ℕ → Type 0) → History → List ℕ → List ℕ → History → Type 0
 IsAnswered made history line told last = IsAnswer made history line told × (last ≡ history)
 

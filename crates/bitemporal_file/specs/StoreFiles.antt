@@ -63,7 +63,7 @@ IsInFiles {D} {g} (Closed files) connection =
     AreClean g files.log files.db → IsCopied connection files
 IsInFiles _ connection = ⊥
 
--- the connection was given up or closed so, or it was not closed since the disk failed or memory is
+-- the connection was given up or closed, or it was not closed since the disk failed or memory is
 -- out: then a crash has no new outcome
 abbrev pub IsLeftAs : {D : Type 0} {g : Ghosts D} → StoreEnd D g → Held (FileStore D g) → Type 0
 IsLeftAs (GivenUp left) connection = manually_drop_value left ≡ connection

@@ -40,7 +40,7 @@ pub(crate) trait Reported {
         ensures { OnOk result
             (Appends (W.contents out.old) (W.contents out.new) (text number self.now)) };
 
-    /// The exit status for its sake: 3 where its audit did not agree or was refused, 1 where the
+    /// The exit status for its sake: 3 if its audit did not agree or was refused, 1 if the
     /// statement was refused, else 0.
     fn status(&self) -> u8
         ensures value { result ≡ status_of self.now }
@@ -214,7 +214,7 @@ impl<W: Write> Reporter<W> {
         }
     }
 
-    /// Writes the answer to a command; nothing where there is no memory for it. Keeps the fault,
+    /// Writes the answer to a command; nothing if there is no memory for it. Keeps the fault,
     /// and says whether there is none.
     pub(crate) fn tell(&mut self, text: Option<&[u8]>) -> bool
         requires { self.old.fault ≡ None }

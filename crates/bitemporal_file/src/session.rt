@@ -29,7 +29,7 @@ use std::io::{Read, Write};
 use std::time::Clock;
 
 // The refusal of a part that begins at this byte of the session, where a bad token is counted from
-// the session's beginning. Nothing where it is not within 64 bits.
+// the session's beginning. Nothing if it is not within 64 bits.
 fn placed(start: usize, refusal: Refusal) -> Option<Refusal>
     ensures { IfSome result (λ placed. placed ≡ placed_at start refusal) }
 {
@@ -61,7 +61,7 @@ fn refuse_part<K: Reported + Drop, W: Write>(
     }
 }
 
-// Runs a part as a script of its own, and reports it. Where it is refused as a whole, that is
+// Runs a part as a script of its own, and reports it. If it is refused as a whole, that is
 // reported as the refusal of one statement.
 fn run_whole<S: Alter, K: PieceResult<S> + Reported + Drop, C: Clock, W: Write>(
     alloc: Global,

@@ -20,7 +20,7 @@ pub(crate) struct BalancedTree {
 
 /// A link to a fork has the fork's height, modulo 256, and the number of its rows: a look at
 /// either reads no fork. Heights that are compared differ by two at most, and modulo 256 they still
-/// say by how much. A number that is too large for 32 bits is stored as the greatest.
+/// differ by as much. A number that is too large for 32 bits is stored as the greatest.
 #[cycle(tree)]
 #[derive(Drop)]
 pub(crate) enum Link {

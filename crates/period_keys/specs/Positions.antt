@@ -13,7 +13,7 @@ value_places def = map (λ (c : ℕ × Column). c.0) (value_columns def)
 abbrev pub value_position_of : TableDef → ℕ → Option ℕ
 value_position_of def place = position (λ other. place == other) (value_places def)
 
--- of several places, as of a key or of a reference, in their order; a period column and a
--- system column have no value in a row
+-- the positions of several places, as of a key or of a reference, in their order; a period column
+-- and a system column have no value in a row
 abbrev pub positions_of_places : TableDef → List ℕ → List ℕ
 positions_of_places def places = filter_map (value_position_of def) places

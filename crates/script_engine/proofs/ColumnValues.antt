@@ -58,7 +58,7 @@ second_fails : (a b : Bool) → (a && b) ≡ false → a ≡ true → b ≡ fals
 second_fails true b e is = e
 second_fails false b e is = absurd (false≢true is)
 
--- ---- by name
+-- ---- columns by name
 
 module _ (t : TableDef) (distinct : has_distinct_names t ≡ true) where
   -- a column is found by its name, with its kind

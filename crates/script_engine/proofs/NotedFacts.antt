@@ -210,7 +210,7 @@ module _ {S : Type 0} (g : Ghosts S) (history last : History) (old new : EngineS
   deleted t d (Update portion assignments condition) versions outcome are done = absurd are
   deleted t d (Delete portion condition) versions outcome are done = ap (λ (o : Outcome). touched_in (Ok o)) done
 
-  -- so many versions are lost, where this is the table that a statement may change
+  -- the number of lost versions, if this is the table that a statement may change
   abbrev pub lost_in : ℕ → Result Outcome Refusal → ℕ
   lost_in table result = lost_of (touched_in result) (length (ended_in old.ended table)) (length (ended_in new.ended table))
 

@@ -87,7 +87,7 @@ otherwise : (b : Bool) → (b ≡ true → ⊥) → b ≡ false
 otherwise true never = absurd (never refl)
 otherwise false never = refl
 
--- versions of such rows have two keys
+-- versions of two rows that differ have two keys
 keys_differ : (table : ℕ) (a b : VersionRow) → Differ (row_of a) (row_of b) → same_version (version_in table a) (version_in table b) ≡ false
 keys_differ table a b differ =
     otherwise (same_version (version_in table a) (version_in table b)) (λ same.

@@ -161,7 +161,7 @@ fn run_piece<S: Alter, K: PieceResult<S>, C: Clock>(
 }
 
 /// Runs the pieces of a script, one after the other, from any history that the engine represents,
-/// and passes on what it keeps of each. Says whether it came to the last: it ends before where the
+/// and passes on what it keeps of each. Says whether it came to the last: it ends earlier if the
 /// listener asks for no more.
 fn run_pieces<S: Alter, K: PieceResult<S>, C: Clock, L: Listener<K>>(
     alloc: Global,
@@ -201,7 +201,7 @@ fn run_pieces<S: Alter, K: PieceResult<S>, C: Clock, L: Listener<K>>(
     true
 }
 
-/// Runs a script over the store of a connection, a new one where there is none, and keeps of each
+/// Runs a script over the store of a connection, a new one if there is none, and keeps of each
 /// of its pieces, in order, its result, or with it the audit of its answer. Gives these records,
 /// and the engine as it is then. An `Err` hands the connection back: it is the refusal of the whole
 /// script, of which nothing is run; out of memory; or, of a script that is sound, why the store is
@@ -261,7 +261,7 @@ pub fn run<S: Alter, K: PieceResult<S> + Drop>(
     Ok((kept, engine))
 }
 
-/// Runs a script over the store of a connection, a new one where there is none. The results are
+/// Runs a script over the store of a connection, a new one if there is none. The results are
 /// those of its statements, refused ones too, in order; an `Err` is as [`run`] gives it.
 pub fn run_script<S: Alter + Drop>(
     alloc: Global,

@@ -60,7 +60,7 @@ fn ends_after(row: &PeriodRow, day: Day) -> bool
     day < row.period.end
 }
 
-/// Whether the rows hold the values on the day: the last of these values that has begun does so, or
+/// Whether the rows hold the values on the day: the last row with them that has begun does so, or
 /// none.
 pub(crate) fn holds_on(rows: &[PeriodRow], values: &Values, day: Day) -> bool
     requires { AreStaggered rows.now }

@@ -131,7 +131,7 @@ starts_reference_element = starts_built reference_element (starts_preceded (keyw
 
 -- ---- elements
 
--- the second and the third of four, taken together
+-- four choices, the second and the third taken together
 module _ {A : Type 0} (K L M N : List Lexeme → A → Type 0) where
   abbrev ByFour : List Lexeme → A → Type 0
   ByFour = Choice K (Choice L (Choice M N))

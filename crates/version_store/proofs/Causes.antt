@@ -123,7 +123,7 @@ module _ (table : ℕ) (moment : ℤ) where
         let kept = all-permutation (λ w. same_key (new_of table moment row) w ≡ false) _ _ (IsPermutation-sym _ _ has.others) (other_bytes c.versions has.values apart) in
         from_filter (is_pending table moment keys) (λ w. same_key (new_of table moment row) w ≡ false) has.versions kept (other_pending keys (new_of table moment row) none)
 
-  -- rows that are added where none is to be removed
+  -- rows that are added if none is to be removed
   module _ (rows : List PeriodRow) (held : AllByRecursion (λ (row : PeriodRow). All IsColumnValue row.values) rows) (db : Database) (c : Contents) (has : HasExcept db table moment [] c) where
     short_new : (rows : List PeriodRow) → AllByRecursion (λ (row : PeriodRow). IsShort (encoded row.values)) rows → AllByRecursion (λ (v : Version). IsShort v.values) (map (new_of table moment) rows)
     short_new [] short = tt

@@ -145,7 +145,7 @@ module _ (table : ℕ) (moment : ℤ) (row : PeriodRow) (values : All IsColumnVa
     values = more_held c was.values;
   }
 
--- ---- rows are added where none is to leave
+-- ---- rows are added if none is to leave
 
 module _ (table : ℕ) (moment : ℤ) where
   abbrev pub new_of : PeriodRow → Version
@@ -185,7 +185,7 @@ leaves old now table moment key before after c was fewer made = record {
   values = was.values;
 }
 
--- ---- the version with a key, where its ends move
+-- ---- the version with a key, if its ends move
 
 module _ (table : ℕ) (values : List ℕ) (start from end to : ℤ) where
   abbrev k : Version

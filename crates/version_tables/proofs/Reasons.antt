@@ -87,7 +87,7 @@ select_never : (params : Row) (selection : Selection) → NeverOverflows params 
 select_never params selection db (inl group) = group
 select_never params selection db (inr some) = none_of _ some
 
--- ---- why it fails
+-- ---- why a text fails
 
 module _ (old new : State) where
   pub by_cause : (TooBig : Type 0) → ¬ TooBig → (e : Error) (cause : StoreError) → e ≡ store_error cause → HasCause old new TooBig cause → HasReason old new e

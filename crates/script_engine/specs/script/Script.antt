@@ -72,8 +72,8 @@ RunPieces = StepPieces PieceStep
 abbrev pub most_bytes : ℕ
 most_bytes = 4_194_304
 
--- the condition of each refusal of a whole script: of one that is too large nothing else is judged,
--- and of one that isn't UTF-8 no token
+-- the condition of each refusal of a whole script: if it is too large nothing else is judged, and
+-- if it isn't UTF-8 no token
 abbrev pub ScriptApplies : List ℕ → Refusal → Type 0
 ScriptApplies script NotUtf8 = (length script ≤ most_bytes) × (IsUtf8 script → ⊥)
 ScriptApplies script ScriptTooLarge = most_bytes < length script

@@ -282,9 +282,9 @@ fn needed_tables(
 }
 
 /// The answer of a query over the rows in memory. Of what its references see, only what it needs is
-/// looked at, which in a history always fits a query of the catalog. Where it does not, the rows in
+/// looked at, which in a history always fits a query of the catalog. If it does not, the rows in
 /// memory are no history's, and the refusal is 62. The versions that have ended are the same
-/// afterwards, chained where that may help.
+/// afterwards, chained if that may help.
 pub fn answer_query(
     alloc: Global,
     catalog: &Catalog,

@@ -159,7 +159,7 @@ fn current_shown(
 
 /// The versions of its table that a stored query shows, by values, then period start, then system
 /// start: of those in memory, which are all. Those that have ended are the same afterwards, chained
-/// where that may help.
+/// if that may help.
 pub fn shown_by(
     alloc: Global,
     tables: &[TableIndex],

@@ -27,7 +27,7 @@ unfoldable pub is_faulty_for : ValueFault → ColumnKind → Value → Bool
 is_faulty_for fault.Kind kind value = not (same_kind (kind_of_column kind) (kind_of_value value))
 is_faulty_for fault.Length kind value = is_longer kind value
 
--- for the column at a place, among the values of a row, and of the rows
+-- the value for the column at a place is wrong in one of the two ways
 unfoldable pub is_faulty_at : ValueFault → List Column → ℕ × Value → Bool
 is_faulty_at way columns given =
     passes (λ (x : Column). is_faulty_for way x.kind given.1) (slice_get columns given.0)
