@@ -1,5 +1,5 @@
 """Scripts whose instructions are counted, and their counting by valgrind: so the machine may have
-other things to do. BITEMPORAL=FILE counts those of another program."""
+other things to do. BITEMPORAL=FILE counts another program's."""
 import random
 import re
 import subprocess

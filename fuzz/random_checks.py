@@ -9,10 +9,10 @@ error. The grammar is data here: the model judges statements by it, and the scri
 random walks through it. Some statements have the right syntax, some have bad literals, in some the
 walk errs in a place or two, and in some tokens were dropped, doubled, swapped, replaced or
 added.
-Half of the scripts have up to a hundred statements. Most others have a few with odd bytes among
+Half of the scripts have up to a hundred statements. Most further ones have some odd bytes among
 them. A few are long: around the most tokens of a statement, or the most bytes of a script.
 
-A script depends on its number alone; the numbers go up from that of --seed. On a difference the
+A script depends on its number alone; the numbers go up from --seed's. On a difference the
 number, the script, what was expected and what was given are shown, then the same for a smaller
 script that still differs. After five differences this ends. The last line says how many scripts
 there were and whether they were all alike. The exit status is 1 if some differ.
@@ -49,7 +49,7 @@ RESERVED = """
     WITH WITHOUT
 """.split()
 
-# Braces repeat any number of times, brackets are optional, `|` chooses, what stands in quotes is a
+# Braces repeat any number of times, brackets are optional, `|` chooses, what is in quotes is a
 # symbol of the script, and a word in capitals is that word.
 GRAMMAR = """
 statement = at | create | insert | update | delete | sequenced | stored

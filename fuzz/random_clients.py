@@ -4,13 +4,13 @@
     fuzz/random_clients.py [--seconds N] [--clients N] [--seed N]
 
 Each client inserts and deletes rows of keys of its own, one statement at a time, over PostgreSQL's
-protocol, and notes what it was told. At random moments a client drops its connection within a
+protocol, and notes what it was answered. At random moments a client drops its connection within a
 statement, or the engine or the server is killed, which is then started again over the store. After
-each round the store has to hold each row that was told as inserted, and none that was told as
+each round the store has to hold each row that was said to be inserted, and none said to be
 deleted; of the statement within which a connection ended either may be so. While the server runs
 on, the clients that are gone leave it no thread and no descriptor.
 
-The program is the built one, or that of the variable BITEMPORAL. What is wrong is printed, and the
+The program is the built one, or the one that BITEMPORAL names. What is wrong is printed, and the
 exit status is 1.
 """
 import argparse
@@ -104,7 +104,7 @@ class Worker(threading.Thread):
                 client.close()
 
     def work(self, client: WireClient) -> bool:
-        """One statement. Whether the connection is kept."""
+        """One statement. Whether the connection stays."""
         known = [key for key, state in self.states.items() if state]
         if known and self.chosen.random() < 0.3:
             key, text, after = self.chosen.choice(known), 'DELETE FROM PAY WHERE ENO = {}', False
@@ -150,7 +150,7 @@ def judged(served: Served, workers: 'list[Worker]') -> 'list[str]':
 
 
 def settled(served: Served, counts: 'tuple[int, int]') -> bool:
-    """Whether the server comes back to these counts of threads and descriptors."""
+    """Whether the server comes back to the given counts of threads and descriptors."""
     for _ in range(100):
         if served.counts() <= counts:
             return True

@@ -1,5 +1,5 @@
 #!/usr/bin/env python3
-"""Runs random scripts and compares each report with that of a model.
+"""Runs random scripts and compares each report with a model's.
 
     fuzz/random_runs.py [--seed N] [--count N] [--forms WORDS] [--audit] [PROGRAM]
 
@@ -15,7 +15,7 @@ few names, values, days and moments, so that they clash. WORDS, with commas betw
     queries   sequenced queries with conditions, joins, windows, UNION, EXCEPT and INTERSECT
     keys      no other statements; but keys and references are checked
 
-Most statements are sound. The others have one fault or several, so that it shows which refusal is
+Most statements are sound. The rest have one fault or several, so that it shows which refusal is
 answered. The model is in random_runs_model.py.
 
 If the report or the exit status isn't the model's, or standard error isn't empty, the script is
@@ -352,7 +352,7 @@ class Generator:
                 [table.columns[column].kind for _, table, column in columns])
 
     def columns(self, known, kinds):
-        """What is selected of tables: the name that each goes by, itself, and a column."""
+        """What is selected of tables: the name that each has, itself, and a column."""
         there = [(name, table, column) for name, table in known for column in table.values]
         if kinds is None:
             columns = self.some(there)[:4] if len(known) > 1 else self.some(there)

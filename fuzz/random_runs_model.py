@@ -3,7 +3,7 @@
 It follows docs/PROFILE.md, rule by rule and without care for speed. It judges the statement that is
 generated, not its text: it has no parser.
 
-A table is kept twice. Its states are kept by moment and day: for each day the rows that hold on it,
+A table is held twice. Its states are held by moment and day: for each day the rows that hold on it,
 over pieces of time in which no day differs from the next. A change acts on each day by itself, and
 sequenced queries, keys and references are judged day by day. Its versions, rows with a period and
 with the moments from which and to which they are recorded, are what stored queries show.
@@ -57,7 +57,7 @@ REFUSALS = {
     27: 'PeriodColumn', 28: 'BadDefinition', 29: 'ColumnCount', 30: 'TypeMismatch',
     31: 'TextTooLong', 40: 'MomentBack', 41: 'EmptyPeriod', 42: 'KeyOverlap',
     43: 'PeriodReference', 62: 'Store'}
-# A moment is kept as reports print it: nineteen characters, and where its fraction of a second is
+# A moment is as reports print it: nineteen characters, and where its fraction of a second is
 # not zero, a point and six digits. So moments compare as their texts do.
 FOREVER = '9999-12-31 23:59:59.999999'
 # Moments in order, and texts of none. FOREVER is none of a clock, nor of AS OF.
@@ -119,7 +119,7 @@ def are_no_period(dates):
 
 
 def order(value):
-    """What orders a value among those of its type: texts go by their bytes."""
+    """What orders a value among those of its type: texts by their bytes."""
     return value.encode() if isinstance(value, str) else value
 
 
@@ -133,7 +133,7 @@ def on(days, day):
 
 
 def together(lists):
-    """One list over all days from several, with a list of what is there in each."""
+    """One list over all days from several, with a list of what each has."""
     firsts = sorted({first for days in lists for first, _ in days} | {FIRST})
     return [(first, [on(days, first) for days in lists]) for first in firsts]
 
@@ -199,7 +199,7 @@ class Table:
 
 
 class Scope:
-    """The tables whose columns a name may match, each by the name that it goes by."""
+    """The tables whose columns a name may match, each by the name that it has."""
 
     def __init__(self, tables):
         self.tables = tables  # pairs of a name and a Table
@@ -501,7 +501,7 @@ class Model:
                 versions.append(version)
                 continue
             count += 1
-            if since != self.clock:  # else it would end as it begins, and isn't kept
+            if since != self.clock:  # else it would end as it begins, and doesn't stay
                 versions.append([values, start, end, since, self.clock])
             pieces = [(values, start, begin), (values, stop, end)]
             pieces += [(new, max(start, begin), min(end, stop)) for new in made(values)]

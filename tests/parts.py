@@ -20,7 +20,7 @@ class Package:
 
 
 def on_path(*names: str) -> Callable[[], bool]:
-    """Whether one of these programs is there."""
+    """Whether one of the programs exists."""
     return lambda: any(shutil.which(name) for name in names)
 
 
@@ -93,7 +93,7 @@ PARTS = [
     Part('tests/untrusted', 2),
     Part('tests/examples', 5),
     Part('tests/pages', 28, needs=(POSTGRESQL,)),
-    # The launcher, and the quick build beside the proved one.
+    # The launcher, and the quick build next to the proved one.
     Part('tests/builds stamps first', 300, **BUILDS),
     Part('tests/builds bugs', 250, **BUILDS),
     # What is installed, and the packages.

@@ -84,7 +84,7 @@ def folder_for_commands(name: str) -> pathlib.Path:
 
 
 class Tests:
-    """Counts the tests that passed, and tells the others."""
+    """Counts the tests that passed, and names the failed ones."""
 
     def __init__(self) -> None:
         self.passed = self.failed = 0

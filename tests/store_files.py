@@ -128,7 +128,7 @@ def contents(file: File) -> list[list[Row]]:
 
 
 def moved(store: list[list[Row]]) -> list[list[Row]]:
-    """The contents of a store as they are when it has been opened: those of form 1 are moved."""
+    """The contents of a store as they are when it has been opened: contents of form 1 are moved."""
     [(_, form, clock)], tables, versions = store
     if form == MICROSECONDS.number:
         return store

@@ -1,11 +1,11 @@
 """What the kit's `rt` knows of a crate: how it calls `rattle` for it, and the stamp by which it
 knows that what was built is of the files as they are.
 
-`rt lib` proves a library over what earlier checks kept, and leaves its proofs in what it builds, up
+`rt lib` proves a library over earlier checks' work, and leaves its proofs in what it builds, up
 to 200 MB that each process of a crate above loads. The gate builds it with what those crates need
 alone, its statements; but `rt` has no command that keeps that. So the proved build calls `rattle`
 itself, with the words that `rt` would use. They are in the module that `rt` is made of, which lies
-beside it.
+next to it.
 """
 from __future__ import annotations
 
@@ -46,11 +46,11 @@ class Library:
         self.stamp = self.crate.stamp()
 
     def is_built(self) -> bool:
-        """Whether it exists, of these files and over these libraries."""
+        """Whether it exists, from the files and over the libraries."""
         return bool(self.crate.is_built())
 
     def build_words(self, jobs: int) -> list[str]:
-        """The command that proves and builds it. If a check has kept work in its out/, that is
+        """The command that proves and builds it. If a check has left work in its out/, that is
         used, and it is built with its proofs, as by `rt lib`."""
         how = module().KEPT if self.crate.has_kept() else ['--statements']
         return [module().RATTLE, 'build', *self.crate.words(['--jobs', str(jobs)]), *how,

@@ -1,7 +1,7 @@
 """The two builds of the program, what each is made from, and the sums by which a build is known to
 be of the sources as they are.
 
-Beside a build lies its stamp, a file with three sums: of the sources that it was made from, of the
+Next to a build is its stamp, a file with three sums: of the sources that it was made from, of the
 proofs, and of the build itself. Times alone don't tell: a checkout is newer than a build that was
 restored from a cache, and a file may be put back to what it was. The launcher reads times first,
 since that is quick, and asks for the sums only if something is newer than the stamp.
@@ -34,7 +34,7 @@ def repository_crates() -> Crates:
 
 
 def crates_below(crates: Crates, name: str) -> set[str]:
-    """The crates that this one depends on, whether by its own line or by that of one below it."""
+    """The crates that this one depends on, whether by its own line or by one below it."""
     found: set[str] = set()
     for other in crates[name]:
         if other in crates:
@@ -67,7 +67,7 @@ class Build:
         return [f'sources {self.sources()}', f"proofs {sum_of(folders(['proofs']))}"]
 
     def sums(self, sources: list[str] | None = None) -> list[str]:
-        """The lines of a stamp for the build as it is now, of these sources, else of those now."""
+        """The lines of a stamp for the build as it is now, of the sources, else of today's."""
         return [*(sources or self.source_sums()), f'build {sum_of_file(self.file)}']
 
     def is_current(self, with_proofs: bool) -> bool:
@@ -124,7 +124,7 @@ def sum_of_file(file: pathlib.Path) -> str:
 
 
 def sum_of(parts: Iterable[str]) -> str:
-    """The sum of the names and the bytes of these files and of those in these folders."""
+    """The sum of the names and the bytes of files, and of the files in folders."""
     found = hashlib.sha256()
     for part in parts:
         for file in within(ROOT / part):

@@ -13,7 +13,7 @@ SOURCES = ['crates', 'crates.txt']
 
 
 def git(*words: str) -> str | None:
-    """What `git` says of the repository, if it is one, and what is asked for is there."""
+    """What `git` says of the repository, if it is one, and has what is asked for."""
     if not (sums.ROOT / '.git').exists() or shutil.which('git') is None:
         return None
     ran = subprocess.run(['git', *words], cwd=sums.ROOT, capture_output=True, text=True,

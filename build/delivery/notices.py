@@ -1,4 +1,4 @@
-"""The licence notices of the libraries that the program is made of: those of the toolchain."""
+"""The licence notices of the libraries that the program is made of, from the toolchain."""
 import pathlib
 
 from builds import kit, sums
@@ -13,7 +13,7 @@ def libraries() -> list[str]:
 
 
 def notices() -> str:
-    """Each licence text that is next to one of these libraries, once, with their names."""
+    """Each licence text that is next to one of the libraries, once, with their names."""
     users: dict[str, list[str]] = {}
     folder = pathlib.Path(kit.module().KIT, 'rattle')
     for name in libraries():

@@ -2,7 +2,7 @@
 and units of systemd.
 
 All of it is in PREFIX/lib/bitemporal, but for what has a place of its own. There the launcher is,
-as in the repository, and beside it the program, by which it knows that it is installed, and a line
+as in the repository, and next to it the program, by which it knows that it is installed, and a line
 that says what the program is made from. The file `installed` lists all that was laid.
 """
 import compileall
@@ -35,7 +35,7 @@ class Tree:
         self.laid: list[str] = []
 
     def place(self, name: str) -> pathlib.Path:
-        """Where a new file of this name goes, in place of one that exists."""
+        """Where a new file with this name is put, in place of one that exists."""
         path = self.top / name
         path.parent.mkdir(parents=True, exist_ok=True)
         path.unlink(missing_ok=True)
@@ -152,7 +152,7 @@ def remove(top: pathlib.Path) -> int:
         (top / name).unlink(missing_ok=True)
     for cache in list((top / LIBRARY).rglob('__pycache__')):  # of another Python, run by root
         shutil.rmtree(cache)
-    # (the folders of a prefix may be there for others, even if they are empty)
+    # (the folders of a prefix may belong to other programs, even if they are empty)
     for name in sorted({str(folder) for name in names for folder in pathlib.Path(name).parents},
                        key=len, reverse=True):
         if 'bitemporal' in name and (top / name).is_dir() and not any((top / name).iterdir()):

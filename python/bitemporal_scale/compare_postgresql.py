@@ -7,7 +7,7 @@ Each script is translated by to_postgresql and run by psql on a private server, 
 for it and removed at the end; or on the server that CONNECTION names, in psql's words ('host=h
 dbname=d'). There each script makes the schema `bitemporal` and is rolled back. --random takes
 COUNT random scripts of fuzz/random_runs.py, with the seeds from FIRST on. The program is the one
-that BITEMPORAL names, or that of this repository.
+that BITEMPORAL names, or this repository's.
 
 The exit status is 0 if all reports are alike, 1 if some differ (the first record of each
 that does is shown), 2 if a script could not be compared: no server, no psql, no program, a text

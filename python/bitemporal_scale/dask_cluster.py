@@ -59,7 +59,7 @@ def told(file: pathlib.Path, folder: pathlib.Path) -> str:
 
 
 def wait_for(address: str, workers: int) -> None:
-    """Waits until this number of workers is there."""
+    """Waits until this number of workers is running."""
     code = ('import sys, distributed\n'
             f'distributed.Client(sys.argv[1], timeout={SECONDS}).wait_for_workers({workers},'
             f' timeout={SECONDS})')

@@ -5,14 +5,14 @@ how.
     distribute [--by ..] [--whole ..] --partitions CONNECTION --partitions .. FILE > setup.sql
     psql -X -v ON_ERROR_STOP=1 -d COORDINATOR -f setup.sql
 
-Each table is kept in parts on N nodes, by a hash of columns of its key: those of --by, else the
+Each table is in parts on N nodes, by a hash of columns of its key: the columns of --by, else the
 first of the key. A table of --whole is on every node as a whole. For each sequenced query a line
 says how it splits, and why not:
 
     disjoint   the answer is the rows of the nodes' answers: no list of values is on two nodes
-    merge      the answer is those rows, those of equal values merged once more
+    merge      the answer is those rows, rows of equal values merged once more
     whole      each node has the answer, and so has the coordinator
-    no         a node would need the rows of others
+    no         a node would need other nodes' rows
 
 and the query of the coordinator follows, over the parts of a table EMP by the names emp_1, emp_2 ..
 

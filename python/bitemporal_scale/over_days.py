@@ -15,7 +15,7 @@ The script may have more bytes than a run takes. --load inserts the rows of a CS
 the CREATE TABLE of their table: its header names the columns, days are YYYY-MM-DD, an empty end
 is 9999-12-31. Bad lines are reported with file, line and column, and then nothing is run.
 
-The report is that of `bitemporal run`, but for what periods as they are stored decide: `done`
+The report is the one of `bitemporal run`, but for what periods as they are stored decide: `done`
 records of UPDATE and DELETE have an empty number of rows; DAYS of `audit,N,agrees,DAYS` is the
 sum over the slices; and a stored query (SELECT *) is refused, unless --without-stored leaves such
 queries out.
@@ -28,11 +28,11 @@ python3-distributed, for /usr/bin/python3).
 
 --cut writes the slices as scripts into a new folder and runs nothing. Run each of them if you
 like: `bitemporal run DAY.sql > DAY.report`, with --audit or without. --join then reads the reports
-in the folder and prints that of the script. If some slices refuse a statement that others did,
-it takes the statement out of these, removes their reports, and names them: run them once more, and
+in the folder and prints the script's. If some slices refuse a statement that the rest did,
+it takes the statement out of those, removes their reports, and names them: run them once more, and
 join again.
 
-The exit status is that of `bitemporal run`: 0, 1 if a statement was refused, 3 if an audit
+The exit status is as of `bitemporal run`: 0, 1 if a statement was refused, 3 if an audit
 does not agree, 2 if there is no report; and 4 if --join waits for reports.
 """
 import argparse
@@ -208,7 +208,7 @@ def cut_alone(options: argparse.Namespace) -> int:
 
 
 def join_alone(options: argparse.Namespace) -> int:
-    """Joins what others ran; the exit status."""
+    """Joins slices that were run elsewhere; the exit status."""
     def tell_round(number: int, again: list[SliceFile]) -> None:
         tell(f'statement {number} is refused in some slices and not in {len(again)} others, from'
              ' which it is taken out')

@@ -14,7 +14,7 @@ DECLARED = {'INTEGER': 'INTEGER', **dict.fromkeys(('DATE', 'TIMESTAMP'), 'TEXT C
 DAY = re.compile(r'[0-9]{4}-[0-9]{2}-[0-9]{2}')
 MOMENT = re.compile(DAY.pattern + r' [0-9:.]{8,15}')
 MOST_LENGTH = 10_000_000  # of a cell
-MOST_BYTES = 2 ** 30      # of memory, unless the server is told another limit
+MOST_BYTES = 2 ** 30      # of memory, unless the server is given another limit
 
 
 def limit(most_bytes: int) -> None:

@@ -145,7 +145,7 @@ class Client:
     # What is run.
 
     def serve(self) -> None:
-        """Serves the client until it goes, and answers each message."""
+        """Serves the client until it leaves, and answers each message."""
         try:
             if not self.starts():
                 return

@@ -86,7 +86,7 @@ def format_of(text: str) -> Format:
 
 
 def unescaped(text: str) -> str:
-    """A text with the characters that its escapes stand for."""
+    """A text with the characters that its escapes denote."""
     def letter(found: 're.Match[str]') -> str:
         return ESCAPES.get(found[1], found[1])
 

@@ -1,4 +1,4 @@
-"""The signs - and + beside dates and moments: calls of functions for sqlite, which takes texts for
+"""The signs - and + after dates and moments: calls of functions for sqlite, which takes texts for
 numbers there. They are found by the texts of their operands: names of columns, calls, literals."""
 import dataclasses
 import re
@@ -65,7 +65,7 @@ def operand(parts: 'list[str]') -> str:
 
 
 def is_date(text: str, dates: AbstractSet[str]) -> bool:
-    """Whether an operand is a date or a moment, as its text tells."""
+    """Whether an operand is a date or a moment, by its text."""
     if text.endswith(AS_MOMENT):
         return True
     if not 0 < len(text) <= LONGEST:

@@ -244,7 +244,7 @@ class Connection:
                                        ' not known') from None
 
     def outcome(self, data: bytes, tree: object) -> engine.Outcome:
-        """The outcome of a statement of these bytes."""
+        """The outcome of a statement, given as bytes."""
         if not isinstance(tree, (*CHANGES, At, Create)):
             return self.engine.query(data, self)
         if self.has_clock and isinstance(tree, At):
@@ -288,7 +288,7 @@ class Cursor:
         return self
 
     def executemany(self, operation: str, seq_of_parameters: Sequence[Sequence[Any]]) -> 'Cursor':
-        """Runs a statement with each of these lists of values, each a transaction of its own."""
+        """Runs a statement with each list of values, each a transaction of its own."""
         count = 0
         for parameters in seq_of_parameters:
             self.execute(operation, parameters)

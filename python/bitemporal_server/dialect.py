@@ -134,7 +134,7 @@ def bad_token(text: str, offset: int) -> Problem:
 
 class HoleParser(Parser):
     """The grammar, with holes in the places of literals. `kinds` has the types that the grammar
-    alone tells, by their offsets."""
+    alone decides, by their offsets."""
 
     def __init__(self, tokens: 'list[Token]') -> None:
         super().__init__(tokens)
@@ -161,7 +161,7 @@ class HoleParser(Parser):
 
 class Prepared:
     """A statement with holes, over the tables of a catalog: `kinds` are the types of its holes,
-    by offset, and `columns` those of its answer, None if it has none."""
+    by offset, and `columns` its answer's columns, None if it has none."""
 
     def __init__(self, text: str, tokens: 'list[Token]', catalog: Catalog) -> None:
         self.text, self.tokens, self.catalog = text, tokens, catalog

@@ -203,7 +203,7 @@ class Engine:
         self.input.flush()
 
     def watch(self, connection: socket.socket) -> None:
-        """Waits for the answer of a query. It is ended if its client goes, or it takes too long."""
+        """Waits for the answer of a query. It is ended if its client ends, or it takes too long."""
         watched: 'list[object]' = [self.output]
         if not isinstance(connection, ssl.SSLSocket):  # of one the bytes that wait are not seen
             watched.append(connection)
@@ -295,6 +295,6 @@ def rows_of(lines: 'list[bytes]') -> 'Iterator[list[str]]':
     lines.reverse()
     while lines:
         chunk = b''.join(lines.pop() for _ in range(min(len(lines), CHUNK)))
-        while chunk.count(b'"') % 2:  # a text goes on in the next line
+        while chunk.count(b'"') % 2:  # a text continues in the next line
             chunk += lines.pop()
         yield from (fields[2:] for fields in records(chunk.decode('utf-8')))

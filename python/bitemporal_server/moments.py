@@ -11,7 +11,7 @@ from .system_texts import quote_ident
 
 MOMENT = re.compile(r'(\d{4}-\d\d-\d\d)(?:[ T](\d\d:\d\d)(?:(:\d\d)(?:\.(\d{1,6}))?)?)?'
                     r' ?(?:Z|[+-]\d\d(?::?\d\d)?)?')
-# Behind what gives a date or a moment, so that it compares as one.
+# After what gives a date or a moment, so that it compares as one.
 AS_MOMENT = ' COLLATE moment'
 INTERVAL = re.compile(r'([+-]?\d+)\s*([a-z]+?)s?\b', re.I)
 # An interval as `span` writes it.

@@ -6,7 +6,7 @@
 
 So tools get aggregates, ORDER BY, LIMIT and outer joins over answers, which the profile does not
 have. A table that is named as tools name it, in double quotes or after `public.`, has its current
-rows there, those of SELECT * FROM table. What sqlite computes is outside the proofs.
+rows there, as of SELECT * FROM table. What sqlite computes is outside the proofs.
 """
 import contextlib
 import re
@@ -29,7 +29,7 @@ from .wire import Column
 NAMED = re.compile(r"'(?:[^']|'')*'|--[^\n]*|/\*.*?\*/"
                    r'|(?:"public"|\bpublic)\s*\.\s*"?(?P<schema>\w+)"?|"(?P<quoted>\w+)"',
                    re.I | re.S)
-POSSIBLE = re.compile(r'["(]|public', re.I)  # without one of these a text is no outer query
+POSSIBLE = re.compile(r'["(]|public', re.I)  # without one of them a text is no outer query
 LACK = re.compile(r'no such (column|table|function): (?:public\.)?(.*)')
 MARKS = re.compile(re.escape(AS_MOMENT) + r'|[\[\]]')  # of ours, in the name of a column
 VALUE = '22000'
@@ -50,7 +50,7 @@ class Inner(NamedTuple):
 
 
 class Outer:
-    """A query over the answers of others."""
+    """A query over the answers of other queries."""
 
     def __init__(self, text: str, inner: 'list[Inner]', stops: Callable[[float], bool]) -> None:
         self.inner, self.stops = inner, stops
@@ -74,7 +74,7 @@ class Outer:
         return f'{self.name()} is computed by sqlite, outside the proofs'
 
     def parameters(self, declared: Sequence[int]) -> 'list[int]':
-        """The type numbers of the parameters: those of the inner queries know theirs."""
+        """The type numbers of the parameters: the inner queries' know theirs."""
         found = [values.TEXT.oid] * self.count
         for inner in self.inner:
             own = inner.prepared.parameters(declared)

@@ -49,7 +49,7 @@ def counters(connection: socket.socket, stream: IO[bytes]) -> 'dict[str, str]':
 
 
 def check(folder: str, listen: Optional[str]) -> int:
-    """Says on standard output what a server answers: its counters, or that it asks who is there.
+    """Says on standard output what a server answers: its counters, or that it asks who calls.
     Gives 0, or 2 if there is no answer."""
     try:
         with connected(folder, listen) as connection:

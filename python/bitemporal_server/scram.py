@@ -43,7 +43,7 @@ def verifier(password: str, salt: Optional[bytes] = None) -> str:
 
 
 def read_users(path: str) -> 'dict[str, User]':
-    """The users of a file. ValueError if others may read it, or a line is no user."""
+    """The users of a file. ValueError if other users may read it, or a line is no user."""
     users = {}
     with open(path, encoding='utf-8') as file:
         if os.fstat(file.fileno()).st_mode & (stat.S_IRWXG | stat.S_IRWXO):
@@ -70,7 +70,7 @@ def state_of(path: str) -> 'Optional[Tuple[int, ...]]':
 
 class Users:
     """The users of a file as it is now. If it has become no list of users, those that were read
-    last stay, and `note` is told why, once."""
+    last stay, and `note` is called with the reason, once."""
 
     def __init__(self, path: str, note: Callable[[str], None]) -> None:
         self.path, self.note, self.lock = path, note, threading.Lock()
@@ -125,7 +125,7 @@ class Exchange:
         return self.answer.encode()
 
     def last(self, message: bytes) -> bytes:
-        """The server's own proof, if that of the client is right."""
+        """The server's own proof, if the client's is right."""
         try:
             bare, _, proof_text = message.decode().rpartition(',p=')
             proof = base64.b64decode(proof_text, validate=True)

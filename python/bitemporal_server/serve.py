@@ -1,4 +1,4 @@
-"""Serves a store over the PostgreSQL protocol, to psql, psycopg, SQLAlchemy, pandas and others.
+"""Serves a store over the PostgreSQL protocol, to psql, psycopg, SQLAlchemy, pandas and the like.
 
     serve STORE [--folder DIR] [--listen HOST:PORT] [--script-clock] [--read-only]
     serve STORE --page [--port PORT] [--write]     a page for a browser on this machine
@@ -33,7 +33,7 @@ MEGABYTE = 2 ** 20
 
 
 def default_folder() -> str:
-    """The folder of the socket: in that of the user's session, if there is one."""
+    """The folder of the socket: in the one of the user's session, if there is one."""
     return os.path.join(os.environ.get('XDG_RUNTIME_DIR', '/tmp'), f'bitemporal-{os.getuid()}')
 
 

@@ -44,7 +44,7 @@ class Listener(NamedTuple):
     number: int = 0
 
     def remove(self) -> None:
-        """Removes the file, unless it is that of a later server."""
+        """Removes the file, unless a later server made it."""
         with contextlib.suppress(OSError):
             if self.file and self.file.stat().st_ino == self.number:
                 self.file.unlink()

@@ -36,7 +36,7 @@ class Result(NamedTuple):
 
 
 class Runner:
-    """Runs the statements of a client. Its turn at the engine is kept to the end of a message."""
+    """Runs the statements of a client. Its turn at the engine lasts to the end of a message."""
 
     def __init__(self, server: 'Server', client: engine.Waiting) -> None:
         self.server, self.engine, self.client = server, server.engine, client

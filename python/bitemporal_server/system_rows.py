@@ -1,4 +1,4 @@
-"""The rows of PostgreSQL's own tables that are about those of a store."""
+"""The rows of PostgreSQL's own tables that are about a store's."""
 import collections
 from typing import Any, Iterable
 
@@ -21,7 +21,7 @@ SETTINGS_SHOWN = {'max_index_keys': str(MOST_PLACES), 'server_version': '9.6.0',
 
 
 def tables_of(catalog: Catalog, user: str) -> 'dict[str, list[dict[str, Any]]]':
-    """PostgreSQL's tables about those of a catalog."""
+    """PostgreSQL's tables about a catalog's."""
     found: 'dict[str, list[dict[str, Any]]]' = collections.defaultdict(list)
     found['pg_namespace'] = [{'oid': 11, 'nspname': 'pg_catalog', 'nspowner': 10},
                              {'oid': 2200, 'nspname': 'public', 'nspowner': 10}]

@@ -182,7 +182,7 @@ class SystemTables:
 
 
 def kind_of(name: str, cells: Iterable[Any]) -> Kind:
-    """The type of a column of these cells."""
+    """The type of a column with these cells."""
     given = [cell for cell in cells if cell is not None]
     if name in ('conkey', 'confkey'):
         return values.PLACES

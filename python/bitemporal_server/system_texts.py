@@ -111,7 +111,7 @@ def parse_ident(name: str) -> str:
 
 
 def format_of(form: str, *given: Any) -> str:
-    """A text with others in the place of each %s, and names in that of each %I."""
+    """A text with a text in the place of each %s, and names in that of each %I."""
     cells = iter(given)
     return re.sub('%([sI])', lambda found: str(
         quote_ident(next(cells)) if found[1] == 'I' else next(cells)), form)

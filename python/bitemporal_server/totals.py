@@ -20,7 +20,7 @@ PERIOD = ['valid_from', 'valid_to', 'held', 'absent']
 
 
 class Wanted(NamedTuple):
-    """The options: columns of groups and of sums, and whether rows are counted and gaps kept."""
+    """The options: columns of groups and of sums, and whether rows are counted and gaps left in."""
     by: str = ''
     sums: str = ''
     counts: bool = False
@@ -83,7 +83,7 @@ class Totals(NamedTuple):
 
 
 def calls(text: str, columns: 'Sequence[Sequence[Column]]') -> 'tuple[str, list[Totals]]':
-    """A text with a table's name in the place of each call, and the calls. `columns` are those of
+    """A text with a table's name in the place of each call, and the calls. `columns` are columns of
     the answers."""
     found: 'list[Totals]' = []
 

@@ -110,7 +110,7 @@ def first_word(name: str) -> str:
 
 
 def close(parts: 'list[str]', level: Level) -> None:
-    """Closes a parenthesis: that of CAST(.. AS DATE) is a call."""
+    """Closes a parenthesis: the one of CAST(.. AS DATE) is a call's."""
     before, as_at = level.begin - 1, level.as_at
     while before >= 0 and not parts[before].strip():
         before -= 1

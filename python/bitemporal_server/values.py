@@ -149,7 +149,7 @@ def tokens_of(value: Value, kind: Optional[str], offset: int) -> 'list[Token]':
             raise Problem('22P02', f'{text!r} is no whole number', position=offset)
         return [*([Token('symbol', found[1], offset, found[1])] if found[1] else []),
                 Token('number', found[2], offset, '')]
-    if kind in ('DATE', 'TIMESTAMP'):  # JDBC writes a time zone behind them
+    if kind in ('DATE', 'TIMESTAMP'):  # JDBC writes a time zone after them
         text = re.sub(r'(?<=\d\d:\d\d)\+00$| [+-]\d\d(:\d\d)?$', '', text)
     if text == 'infinity':
         text = {'DATE': OPEN_END, 'TIMESTAMP': FOREVER}.get(kind, text)

@@ -24,7 +24,7 @@ SUBCOMMANDS = {name: f'{package}.{name.replace("-", "_")}' for package, names in
 
 
 def main(words: Optional[Sequence[str]] = None) -> None:
-    """Runs a tool, and ends with its status. The words are those of the command line."""
+    """Runs a tool, and ends with its status. The words are the command line's."""
     name, *rest = words if words is not None else sys.argv[1:] or ['--help']
     name = name.replace('_', '-')
     if name in ('-h', '--help'):

@@ -22,14 +22,14 @@ A script of changes has these statements, the first six as in the standard:
 
 ADD PRIMARY KEY puts a key in the place of the one that exists.
 
-The changes are made one after the other. STORE is never written. What others keep in its file,
-tables, views and columns of their own, is not taken over. The new store is opened by the
+The changes are made one after the other. STORE is never written. Tables, views and columns that
+other programs have in its file are not taken over. The new store is opened by the
 program, which judges it: if it refuses it, the cause is reported, the status is 1 and there is no
 NEW.store. A run that is killed leaves none either; a file NEW.store.*.part may stay then, and can
 be removed. Two versions that a change makes equal on other days or moments stay two.
 
 The exit status is 0; 1 if the program refuses the new store; and 2 if a change can't be made
-of these tables, a file can't be read or written, or NEW.store exists already.
+of its tables, a file can't be read or written, or NEW.store exists already.
 """
 import argparse
 import difflib

@@ -14,7 +14,7 @@ is printed as CSV. With more than one say which by --only, a list of numbers or 
 between them. With --into, --parquet writes files of Parquet, if pyarrow is installed.
 
 An answer is in the order of its values. --by sorts the rows by columns of the answer; `day` is the
-first day. `--by ENO,day` has the history of each ENO in the order of time, `--by day` that of all.
+first day. `--by ENO,day` has the history of each ENO in the order of time, `--by day` of all.
 --witness adds the two columns `held` and `absent`.
 
 --scale PAY=2 writes the cents of PAY as a number with decimals. --inclusive writes the last day on
@@ -28,7 +28,7 @@ are, but on a web page.
 
 The exit status is 0; 1 if the report has a refused statement, written to standard error (the
 answers are written all the same), or an answer that is asked for is missing; and 2 if the
-command line or a file is wrong, or the report isn't that of the script.
+command line or a file is wrong, or the report isn't the script's.
 """
 import argparse
 from collections.abc import Sequence

@@ -101,6 +101,6 @@ def run(name: str, main: Callable[[], int]) -> NoReturn:
         print(f'{name}: {fault}', file=sys.stderr)
         sys.exit(fault.status)
     except BrokenPipeError:
-        # Whoever read the output has stopped. Without this Python tells it once more as it ends.
+        # Whoever read the output has stopped. Without this Python reports it once more as it ends.
         os.dup2(os.open(os.devnull, os.O_WRONLY), sys.stdout.fileno())
         sys.exit(2)

@@ -40,7 +40,7 @@ def two_lists(first: Sequence[str], second: Sequence[str], head: str = '') -> It
 
 
 def projected(store: Store, name: str, columns: Sequence[str]) -> Iterator[Version]:
-    """The versions of a table with the values of these columns alone, in their order."""
+    """The versions of a table with the values of some columns alone, in their order."""
     number = store.number(name)
     table = store.tables[number - 1]
     if table.value_names == list(columns):

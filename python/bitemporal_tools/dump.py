@@ -10,12 +10,12 @@ folders is a diff of two histories, and tools/restore makes the store again.
 With --script there is a script of CREATE TABLE, AT, INSERT, UPDATE and DELETE, on standard output
 or in FILE. (One of more than 4 MiB is sent to a session.) Run over an empty store, by any program
 of the profile, it makes the same rows as of each moment and each day. It is run once to see whether
-it also makes the very versions, since days may be cut otherwise. That is told, and a script that
+it also makes the very versions, since days may be cut otherwise. That is printed, and a script that
 the program would refuse is not written: its states break a key or a reference that the table was
 given later.
 
 STORE is never written. The exit status is 0; 1 if no script makes the history; and 2 if a
-file can't be read or written, or FOLDER or FILE is there already.
+file can't be read or written, or FOLDER or FILE exists already.
 """
 import contextlib
 import os

@@ -25,7 +25,7 @@ last day that is counted, for all rows.
 
 The exit status is 0; 1 if the report has a refused statement, written to standard error, or an
 answer that is asked for is missing; and 2 if the command line or a file is wrong, or the report
-isn't that of the script.
+isn't the script's.
 """
 import argparse
 import sys
@@ -115,7 +115,7 @@ def durations(table: DayTable, places: Sequence[int], what: str) -> list[Duratio
 
 
 def longest(found: list[Duration], top: int) -> list[Duration]:
-    """The longest, the longer first. Those that are left out and as long as the last are told."""
+    """The longest, the longer first. Those that are left out and as long as the last are said."""
     ordered = sorted(found, key=lambda one: -one.days)
     alike = sum(one.days == ordered[top - 1].days for one in ordered[top:])
     if alike:

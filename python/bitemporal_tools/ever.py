@@ -8,8 +8,8 @@ REPORT is what `run` printed for SCRIPT; if it is left out or `-`, it is standar
 sequenced query is asked of each day alone; this tool looks at all days of its answers. Asked about
 are the values of the columns of --of, which each answer that is named has.
 
---ever ANSWER takes those of which the answer has a row on some day, and --never ANSWER leaves out
-those of which it has one. ANSWER is the number or the name of a statement; after a colon it may
+--ever ANSWER takes those that the answer has a row on some day, and --never ANSWER leaves out
+those that it has. ANSWER is the number or the name of a statement; after a colon it may
 name values that the rows have to have: `--ever 3:DEPT=1 --never 3:DEPT=2`, or
 `places:DEPT=1,GRADE=5`.
 
@@ -17,8 +17,8 @@ name values that the rows have to have: `--ever 3:DEPT=1 --never 3:DEPT=2`, or
 --least N: who had two managers.
 
 --in DAYS looks at these days alone: a year 2024, a quarter 2024-Q2, a month 2024-03, a day, or two
-of these as FIRST..LAST, with both of them in it. --each asks the question of each month (quarter,
-year) of these days by itself. Without --in these are all days of the answers, of which none may be
+such days as FIRST..LAST, with both of them in it. --each asks the question of each month (quarter,
+year) of the days by itself. Without --in it looks at all days of the answers, of which none may be
 open.
 
 Printed are those who are chosen, with the days on which the first --ever has a row of them, and
@@ -26,7 +26,7 @@ with --different the values there. --who prints each once, without days.
 
 It is made by this script, outside the proofs. The exit status is 0; 1 if the report has a
 refused statement, written to standard error, or an answer that is asked for is missing; and 2 if
-the command line or a file is wrong, or the report isn't that of the script.
+the command line or a file is wrong, or the report isn't the script's.
 """
 import argparse
 from collections.abc import Iterator, Sequence

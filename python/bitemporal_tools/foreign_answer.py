@@ -45,7 +45,7 @@ class JudgedTable:
 
     def __init__(self, query: Query, catalog: Catalog) -> None:
         self.kinds = [kind or '' for _, kind in columns_of(query, catalog)]
-        # Beside the values: the number, two days and two moments.
+        # Apart from the values: the number, two days and two moments.
         if len(self.kinds) > MOST_COLUMNS - 5:
             raise Fault(f'the query has {len(self.kinds)} columns, and {MOST_COLUMNS - 5} are the'
                         ' most that can be judged')
@@ -122,7 +122,7 @@ class JudgedTable:
             for number, (values, start, end) in enumerate(rows, 1)]))
 
     def queries(self, text: str) -> Iterator[str]:
-        """The two queries, for that of a statement `VALIDTIME query`."""
+        """The two queries, for the one of a statement `VALIDTIME query`."""
         query = re.sub('(?i)^VALIDTIME', '', text).strip()
         items = [f'{name} AS {answer_name}'
                  for name, answer_name in zip(self.names, self.answer_names)]

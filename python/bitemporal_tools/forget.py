@@ -1,4 +1,4 @@
-"""Makes a new store of a store, without what is no longer to be kept.
+"""Makes a new store of a store, without what is no longer to be stored.
 
     tools/forget STORE --to NEW.store [--before MOMENT] [--keys FILE ..] [--dry-run]
 
@@ -14,8 +14,8 @@
 The journal of what went is on standard output, as CSV with a line for each table and cause: the
 table, `before` or `keys`, how many versions, and how many of them were current. It has no values.
 
-STORE is never written, and nothing of it is in the bytes of NEW.store but what is kept. What others
-keep in its file, tables and columns of their own, is not taken over. Copies, backups and logs of
+STORE is never written, and nothing of it is in the bytes of NEW.store but what stays. What other
+programs have in its file is not taken over: tables and columns. Copies, backups and logs of
 STORE have what they had. The exit status is 0; 1 if the program refuses the new store, of which
 the cause is reported; and 2 if a file can't be read or written, FILE names what STORE has not, or
 NEW.store exists already.
@@ -96,7 +96,7 @@ class Forgetting:
         self.counts: dict[tuple[str, str], list[int]] = {}
 
     def cause(self, number: int, version: Version) -> Optional[str]:
-        """Why a version goes, or None if it stays."""
+        """Why a version is removed, or None if it stays."""
         if any(values.has(version) for values in self.values[number - 1]):
             return KEYS
         return BEFORE if version.until <= self.before else None
@@ -120,7 +120,7 @@ class Forgetting:
                     self.values[place].append(Values(child, order, gone))
 
     def kept(self) -> Iterator[writing.Numbered]:
-        """The versions that stay. What goes is counted."""
+        """The versions that stay. What is removed is counted."""
         for number, table in enumerate(self.store.tables, 1):
             for version in self.store.versions(number):
                 cause = self.cause(number, version)

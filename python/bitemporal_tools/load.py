@@ -22,12 +22,12 @@ these columns, days and all: for exports if each line is a new state of a number
 the other, which is empty or in the year 9999 if the row is current.
 
 With --store STORE the script has only what brings the store from what it holds to what the file
-says. So the file may have the lines of all nights or those of the last one; loaded again it adds
+says. So the file may have the lines of all nights or of the last one alone; loaded again it adds
 nothing. With --record it has to have all lines of its records. Lines that were recorded before the
 clock of the store, and that it lacks, are late: they are reported and nothing is written, or with
 --late now recorded at the clock. With --complete the file, which has no moments, has all rows of
-the table: what the store has beside them is deleted. The table is one of the store, or that of
---table on the first night, when the store is not there yet.
+the table: what else the store has is deleted. The table is one of the store, or the one of
+--table on the first night, when the store does not exist yet.
 
 --merge SCRIPT adds the file to a script that was made of another one: the moments of both are put
 into one order. So tables that refer to each other get their rows in the order of their recording.

@@ -1,7 +1,7 @@
 """Where the program is.
 
 In the repository there are up to two builds of it, and a launcher that chooses one and makes it
-if there is none. Beside the installed tools only the launcher is there, and beside tools that
+if there is none. Installed tools have only the launcher, and tools that
 `pip` installed nothing of it: then the program is the one that a shell would run.
 """
 import os

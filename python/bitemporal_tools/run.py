@@ -1,20 +1,20 @@
-"""Runs a script: its report goes to standard output, what is to be said of it to standard error.
+"""Runs a script: its report is written to standard output, notes on it to standard error.
 
     tools/run [--stop] [--audit] [--store STORE] [FILE]
 
-Standard error gets the explanation of each refused statement, and notes on others, as tools/explain
+Standard error gets the explanation of each refused statement, and other notes, as tools/explain
 has them, and then a last line such as
 
     bitemporal: 12 statements, 1 refused, 5 answers, 5 audits agree
 
-Answers are those of sequenced and of stored queries. Without --audit nothing is said of audits.
+Answers are of sequenced and of stored queries. Without --audit nothing is said of audits.
 
     --stop         ends at the first refused statement: no statement after it is in the report, or
                    does anything
     --store STORE  runs the script by `bitemporal_file` over the store in the file STORE
     --audit        is passed on to the program, as each other word is that begins with -
 
-Without FILE, or if it is -, standard input is read. The exit status is that of `bitemporal run`:
+Without FILE, or if it is -, standard input is read. The exit status is as of `bitemporal run`:
 0, or 1 if a statement was refused, 2 if the script or the command line was, and 3 if an
 audit did not agree. It is 2 too if FILE cannot be read; a line says which and why.
 """

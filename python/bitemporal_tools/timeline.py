@@ -25,11 +25,11 @@ upwards. Each value of a column has a plane of its own: of the first column of t
 through the versions is the moment of a query's AS OF: what it crosses is what the query saw.
 
 A picture has at most 60 lines, or --most N; more of them are drawn as further pictures. --svg and
---png draw one of these pages: the first, or --page N.
+--png draw one page: the first, or --page N.
 
 The exit status is 0; 1 if the report has a refused statement, written to standard error, or an
 answer that is asked for is missing; and 2 if the command line or a file is wrong, or the report
-isn't that of the script.
+isn't the script's.
 """
 import argparse
 import pathlib

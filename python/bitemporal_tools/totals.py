@@ -22,7 +22,7 @@ this script, outside the proofs.
 
 The exit status is 0; 1 if the report has a refused statement, written to standard error, or an
 answer that is asked for is missing; and 2 if the command line or a file is wrong, or the report
-isn't that of the script.
+isn't the script's.
 """
 import argparse
 from collections.abc import Sequence

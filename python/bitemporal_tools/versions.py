@@ -1,4 +1,4 @@
-"""Takes versions of rows to other databases, and the answers of these back to be judged.
+"""Takes versions of rows to other databases, and their answers back to be judged.
 
     tools/versions ask SCRIPT > asked.sql
     ./bitemporal run asked.sql | tools/versions copy asked.sql --to DATABASE --into FOLDER
@@ -81,7 +81,7 @@ def judged(path: str, catalog: Catalog) -> tuple[str, list[Statement]]:
 
 
 def catalog_after(statements: Iterable[Statement], before: Catalog) -> Catalog:
-    """The tables that exist after these statements, which found others there."""
+    """The tables that exist after these statements, which found the given ones."""
     catalog = before.copy()
     for statement in statements:
         if not statement.faults:

@@ -59,7 +59,7 @@ class Browser:
         return found
 
     def call(self, method: str, **given: Any) -> Dict[str, Any]:
-        """The result of a call. What the page complains of is kept in `errors`."""
+        """The result of a call. What the page complains of is in `errors`."""
         number = next(self.numbers)
         words: Dict[str, Any] = {'id': number, 'method': method, 'params': given}
         if self.session:

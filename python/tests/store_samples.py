@@ -122,7 +122,7 @@ def verified(store: str) -> bytes:
 
 
 def contents(store: str, tables: list[str]) -> list[list[str]]:
-    """All versions of these tables, as the program shows them."""
+    """All versions of some tables, as the program shows them."""
     return answered(store, ''.join(f'SELECT * FROM {name} {ALL_MOMENTS};\n' for name in tables))
 
 

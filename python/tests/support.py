@@ -66,7 +66,7 @@ def run_here(name: str, words: Sequence[object]) -> NoReturn:
 
 def create_table(name: str, columns: str, key: str, period: str = 'P', more: str = '') -> str:
     """A CREATE TABLE with these value columns, S, E, SS and SE, with this key, and with what is to
-    stand behind the key, such as a reference."""
+    follow the key, such as a reference."""
     more = f',\n {more}' if more else ''
     return f'''CREATE TABLE {name} ({columns}, S DATE, E DATE,
  SS TIMESTAMP GENERATED ALWAYS AS ROW START, SE TIMESTAMP GENERATED ALWAYS AS ROW END,
@@ -95,7 +95,7 @@ def build() -> None:
 
 
 def run_cases() -> NoReturn:
-    """Runs the test cases of the main program. Those that are skipped are told; the last line has
+    """Runs the test cases of the main program. Those that are skipped are named; the last line has
     the counts, 'N passed, M failed'."""
     build()
     result = unittest.main(exit=False).result

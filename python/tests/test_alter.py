@@ -71,7 +71,7 @@ class Alter(StoreTests):
                          ['table,1,SALARY,SALARY.csv,3', 'table,2,PAY,PAY.csv,3'])
 
     def test_a_reference_to_a_later_table(self) -> None:
-        """The tables get other numbers, and each version goes with its table."""
+        """The tables get other numbers, and each version stays in its table."""
         store = self.made('boss.store', BOSS)
         found = self.altered(store, '--add-reference', 'EMP.ENO=DEP.DNO', '--drop-reference',
                              'EMP.ENO=DEP.DNO', '--drop-reference', 'PAY.ENO=EMP.ENO',
@@ -135,7 +135,7 @@ DROP TABLE DEP CASCADE
             'DEP goes, with 3 versions'])
 
     def test_columns_of_random_stores(self) -> None:
-        """Without a column, and with a new one, the versions are those of before."""
+        """Without a column, and with a new one, the versions are as before."""
         for seed in range(STORES):
             sample = Random(seed + 400)
             store = self.made(f'{seed}.store', sample.script)
@@ -389,7 +389,7 @@ class Stores(StoreTests):
                          'with .*-wal beside it is refused: 60 BadStore')
 
     def test_a_store_of_form_1(self) -> None:
-        """The moments are read as those of the store that the program makes of this one."""
+        """The moments are read as the moments of the store that the program makes of this one."""
         store = self.made('pay.store', PAY.replace('00.25', '00'))
         connection = sqlite3.connect(store)
         connection.executescript('''UPDATE bt_meta SET form = 1, clock = clock / 1000000;
@@ -414,7 +414,7 @@ class Stores(StoreTests):
                       self.refused('alter', store, '--to', self.path('n'), *self.change))
 
     def test_what_others_keep(self) -> None:
-        """Tables, views and columns of others are no hindrance, and are not taken over."""
+        """Tables, views and columns of other programs are no hindrance, and are not taken over."""
         store = self.made('pay.store', PAY)
         wanted = contents(store, ['EMP', 'PAY'])
         connection = sqlite3.connect(store)

@@ -182,7 +182,7 @@ class Answers(support.Case):
         self.equal('two on a page', (status, page.count('<table>')), (0, 2))
 
     def test_forms(self) -> None:
-        """Cents with decimals, last days, a byte order mark, and a title beside a name."""
+        """Cents with decimals, last days, a byte order mark, and a title instead of a name."""
         paths = self.written(PAY)
         found = tool('answers', *paths, '--only', 'pay', '--scale', 'k=2', '--inclusive')
         self.equal('decimals and last days', found, (0, """K,V,valid_from,last_day

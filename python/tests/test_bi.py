@@ -10,7 +10,7 @@ a type if it is a number, and `--: NAME, NAME` are the columns that are looked a
 If PostgreSQL is installed, each text is a statement of its own, and those that name no columns
 give the same rows there, unless `--~ WHY` says that they do not.
 
-The program is the built one, or that of the variable BITEMPORAL.
+The program is the built one, or the one that the variable BITEMPORAL names.
 """
 import contextlib
 import pathlib
@@ -124,7 +124,7 @@ class Queries(unittest.TestCase):
 
     def test_garbled(self) -> None:
         """Each text with some of its tokens changed is answered or refused, and no connection ends.
-        SEED and COUNT choose others."""
+        SEED and COUNT choose the texts."""
         chosen = random.Random(support.chosen('SEED', 1))
         texts = [query.text for file in FOLDER.glob('*.sql')
                  for query in queries(file.read_text('utf-8'))]

@@ -1,8 +1,8 @@
 #!/usr/bin/env python3
 """Tests the server by the clients that are installed: psycopg2, psycopg 3, asyncpg, SQLAlchemy,
-pandas and JDBC. Those of Python are Debian's, so they are run by its Python.
+pandas and JDBC. The ones in Python are Debian's, so they are run by its Python.
 
-The program is the built one, or that of the variable BITEMPORAL.
+The program is the built one, or the one that the variable BITEMPORAL names.
 """
 import contextlib
 import os

@@ -1,7 +1,7 @@
 #!/usr/bin/env python3
 """Tests the DB-API module point by point, as PEP 249 has them.
 
-The program is the built one, or that of the variable BITEMPORAL.
+The program is the built one, or the one that the variable BITEMPORAL names.
 """
 import datetime
 import os

@@ -1,8 +1,8 @@
 #!/usr/bin/env python3
 """Tests the tools that write stores and dumps on a disk that gets full, a tmpfs of a megabyte, and
-killed while they write: what is there then is the whole of it, or nothing.
+killed while they write: what exists then is the whole of it, or nothing.
 
-The program is the built one, or that of the variable BITEMPORAL.
+The program is the built one, or the one that the variable BITEMPORAL names.
 """
 import os
 import pathlib

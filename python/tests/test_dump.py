@@ -318,7 +318,7 @@ def question(table: tables.Table, moment: str) -> str:
 
 
 def dumped(folder: str, name: str) -> list[list[str]]:
-    """The records of a file of a dump, read by another reader than that of the tools."""
+    """The records of a file of a dump, read by another reader than the tools'."""
     text = pathlib.Path(folder, f'{name}.csv').read_bytes().decode('utf-8')
     found, fields, in_quotes = list[list[str]](), [''], False
     for letter in text:

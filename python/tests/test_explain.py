@@ -24,7 +24,7 @@ def edited(text: str, *edits: tuple[str, str]) -> str:
 
 
 def without(*numbers: int) -> Callable[[str], str]:
-    """A text without its lines of these numbers, from 1, and from the end -1."""
+    """A text without the lines of the given numbers, from 1, and from the end -1."""
     def cut(text: str) -> str:
         lines = text.splitlines(keepends=True)
         kept = {number % (len(lines) + 1) for number in numbers}
@@ -117,7 +117,7 @@ class Explain(Case):
                                      other)
 
     def test_profile(self) -> None:
-        """The numbers and the names of all refusals but those of a whole script and of a store."""
+        """The numbers and the names of all refusals but a whole script's and a store's."""
         text = (ROOT / 'docs/PROFILE.md').read_text('utf-8')
         wanted = [f'{number} {name}' for number, name in
                   re.findall(r'^\| (\d+) \| ([A-Za-z]*) \| ', text, re.M)

@@ -1,7 +1,7 @@
 #!/usr/bin/env python3
 """Tests that the program and the tools open a store of each form that there ever was.
 
-tests/forms has one of each, which the program of its time wrote: that of form 1 by the last build
+tests/forms has one of each, which the program of its time wrote: the first by the last build
 that counted moments in seconds. Both are of one script, but that the moment of its changes has a
 fraction in form 2. A store of a new form is added here, and none is taken away.
 """

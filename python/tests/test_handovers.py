@@ -30,12 +30,12 @@ OVERLAP = 'load: 1 row begins before the end of the row before it of the same DE
 GUESSED = [
     (HANDOVERS, True),
     (HANDOVERS.replace('-11\n', '-12\n').replace('-21\n', '-22\n'), False),
-    # The only column is that of the weeks.
+    # The only column is the weeks'.
     ('week,from,to\n1,2024-01-01,2024-01-07\n2,2024-01-08,2024-01-14\n3,2024-01-15,2024-01-21\n',
      True),
     ('week,from,to\n1,2024-01-01,2024-01-08\n2,2024-01-08,2024-01-15\n3,2024-01-15,2024-01-22\n',
      False),
-    # Rows of the key meet, and so do those of another group by chance, a day apart.
+    # Rows of the key meet, and so do rows of another group by chance, a day apart.
     ('k,v,from,to\n1,1,2024-01-01,2024-02-10\n1,2,2024-02-10,2024-03-15\n'
      '2,1,2024-02-11,2024-02-20\n2,2,2024-03-16,2024-04-20\n', False),
     # Nothing follows anything: months decide.

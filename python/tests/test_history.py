@@ -137,7 +137,7 @@ class Forget(StoreTests):
         self.assertEqual((len(answered(new, asked)), len(answered(store, asked))), (2, 3))
 
     def test_keys(self) -> None:
-        """All of a person goes: the rows of a key, those that refer to it, those that refer to
+        """A whole person goes: the rows of a key, those that refer to it, those that refer to
         these; and nothing of their bytes is in the new store."""
         store, new = self.made('pay.store', PAY + LOG), self.path('new.store')
         keys = self.files.write('keys.csv', 'EMP.ENO\n101\n7\n')

@@ -4,7 +4,7 @@ guess, and files that are more than a script.
 
 The model knows no periods and no changes: for each moment it walks through the lines that are
 recorded by then, and keeps for each key and each of a few days which values the last of them gave.
-Of these the last stands for all days up to 9999-12-30.
+The last of these days is for all days up to 9999-12-30.
 """
 from __future__ import annotations
 
@@ -74,7 +74,7 @@ class Way:
 
 
 def in_order(lines: list[Line]) -> list[Line]:
-    """The lines by moment; those of one moment in the order of the file."""
+    """The lines by moment; lines of one moment in the order of the file."""
     return sorted(lines, key=lambda line: line.moment)
 
 
@@ -242,7 +242,7 @@ EVER = 'k,v,valid_from,valid_to\n1,1,2024-01-01,2024-02-01\n1,2,2024-02-01,2024-
 
 
 def apart(choose: random.Random) -> Iterator[tuple[object, ...]]:
-    """Lines of some keys at random, those of a key on days apart, in any order."""
+    """Lines of some keys at random, each key's on days apart, in any order."""
     lines: list[tuple[object, ...]] = []
     for key in choose.sample(range(-50, 50), choose.randrange(1, 40)):
         days = sorted(choose.sample(range(60), 2 * choose.randrange(1, 4)))

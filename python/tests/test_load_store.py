@@ -217,7 +217,7 @@ class Nights(Stores):
                     '--later-line-wins', '--removed', 'state=gone', *words)
 
     def night(self, lines: list[Line], said: list[Said], model: Model, words: list[str]) -> None:
-        """A night: the late lines are those of the model, and a second load adds nothing."""
+        """A night: the late lines are the model's, and a second load adds nothing."""
         header = ['number', 'k', 'l', 'v', 's', 'e', 'at', 'state']
         file = self.write('x.csv', ''.join(map(record, [header, *(line.cells()
                                                                   for line in lines)])))
@@ -238,7 +238,7 @@ class Nights(Stores):
         table = self.write('t.sql', choose.choice(TABLES))
         lines = [random_line(choose, choose.choice(Moments))
                  for _ in range(choose.randrange(4, 24))]
-        # A line comes in the night after its moment, or in a later one.
+        # A line is loaded in the night after its moment, or in a later one.
         nights = [(Moments.index(line.moment) // 6 + (choose.random() < 0.25)
                    * choose.randrange(3), line) for line in lines]
         has_all, model, coming = by_record or choose.random() < 0.5, Model(), list[Line]()
@@ -319,7 +319,7 @@ class Cases(Stores):
 UPDATE PAY FOR PORTION OF P FROM DATE '2024-04-01' TO DATE '2024-07-01'
  SET PAY = 10 WHERE ENO = 1;
 """
-        for lines in (JANUARY + line, line):  # those of all nights, and those of the last
+        for lines in (JANUARY + line, line):  # the lines of all nights, and of the last
             self.assertEqual(self.load(lines, '--recorded', 'at')[:2], (0, wanted))
         self.run_script(wanted)
         for lines in (JANUARY + line, line, JANUARY):
@@ -381,7 +381,7 @@ INSERT INTO PAY VALUES
             ' 2024-05-01 00:00:00\n'))
 
     def test_tables(self) -> None:
-        """The table is one of the store, or one that --table makes beside those of the store."""
+        """The table is one of the store, or one that --table makes besides the store's."""
         self.filled()
         words = ['--recorded', 'at']
         for table, fault in (

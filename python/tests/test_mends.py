@@ -10,7 +10,7 @@ of which something has to be said if a statement or the script is refused, and n
 Last, changes that were spoilt in a word: what the mended statement changes has to be part of what
 the right one does, the rows, the days and the columns.
 
-The program is the built one, or that of the variable BITEMPORAL.
+The program is the built one, or the one that the variable BITEMPORAL names.
 """
 import datetime
 import pathlib
@@ -157,7 +157,7 @@ class Mends(Case):
                     try:
                         more = changed(rows, tree) - asked
                     except (KeyError, StopIteration, ValueError, AttributeError, TypeError):
-                        more = set()  # it names what is not there, and is refused
+                        more = set()  # it names what does not exist, and is refused
                     if more:
                         worse.append((wrong, sentences))
             self.equal(f'{text}: {count} times spoilt', (worse,), ([],))

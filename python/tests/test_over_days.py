@@ -144,7 +144,7 @@ class OverDays(Case):
         self.equal('loaded rows, audited', (status, errors, output.count('agrees')), (0, '', 3))
 
     def test_days(self) -> None:
-        """Of some days alone the answers are what the whole answers say of these days."""
+        """Of some days alone the answers are what the whole answers say of those days."""
         given = list(rows(60))
         low, high = datetime.date(2024, 3, 1), datetime.date(2024, 5, 1)
         script = script_of(given)

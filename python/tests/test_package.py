@@ -19,7 +19,7 @@ BUILD = 'import setuptools.build_meta as build; build.build_wheel("../built")'
 
 
 def python_with(modules: str) -> Optional[str]:
-    """A Python that has these modules: that of the system may, if that of a user has not."""
+    """A Python that has these modules: the system's may, if the user's has not."""
     return next((python for python in (sys.executable, '/usr/bin/python3') if subprocess.run(
         [python, '-c', f'import {modules}'], stderr=subprocess.DEVNULL,
         check=False).returncode == 0), None)

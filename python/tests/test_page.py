@@ -1,7 +1,7 @@
 #!/usr/bin/env python3
 """Tests the page of `serve --page`, by HTTP and in Chromium if it is installed.
 
-The program is the built one, or that of the variable BITEMPORAL.
+The program is the built one, or the one that the variable BITEMPORAL names.
 """
 import http.client
 import json

@@ -35,7 +35,7 @@ row,5,2,"y, z",2024-03-01,2024-03-02,2024-03-01,2024-02-29
 
 
 def examples() -> Iterator[pathlib.Path]:
-    """The scripts whose report is known, and is that of `run` without more words."""
+    """The scripts whose report is known, and is the one of `run` without more words."""
     for script in [*sorted((ROOT / 'examples').glob('*.sql')), *program.scripts()]:
         if script.with_suffix('.report').exists() and not script.with_suffix('.args').exists():
             yield script

@@ -79,7 +79,7 @@ class Export:
     def staff(self, until: str, has_raise: bool = False) -> Staff:
         """Of each worker the department, the grade and the pay on each day, by the lines that were
         recorded before a moment: a later line holds on its days. The raise of 102 is between the
-        lines of the export and those of the night."""
+        lines of the export and the night's."""
         found: Staff = collections.defaultdict(dict)
         for line in self.lines:
             if has_raise and line['recorded at'] > '2025':
@@ -163,7 +163,7 @@ class Questions(unittest.TestCase):
 
     def expand(self, rows: Iterable[list[str]]) -> set[tuple[Any, ...]]:
         """Rows that end with a first and a last day, as their values on each day of the export; an
-        end that is open goes to the last day of it."""
+        end that is open ends with its last day."""
         found: list[tuple[Any, ...]] = []
         for *values, first, last in rows:
             end = len(DAYS) - 1 if last.startswith('9999') else day(last)

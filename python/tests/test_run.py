@@ -1,7 +1,7 @@
 #!/usr/bin/env python3
 """Tests tools/run, also by what README.md and docs/PROFILE.md show of it.
 
-The program is the built one, or that of the variable BITEMPORAL.
+The program is the built one, or the one that the variable BITEMPORAL names.
 """
 import os
 import pathlib

@@ -1,7 +1,7 @@
 #!/usr/bin/env python3
 """Tests the server by a client of its own, and by psql if it is installed.
 
-The program is the built one, or that of the variable BITEMPORAL.
+The program is the built one, or the one that the variable BITEMPORAL names.
 """
 import base64
 import contextlib
@@ -43,7 +43,7 @@ TAGS = {'CREATE TABLE': 'create,0', 'AT': 'at,0'}
 @contextlib.contextmanager
 def served(**how: Any) -> Iterator[Any]:
     """A server of a new store in a thread, on a Unix socket or, if users are named, by TCP. Its
-    `address` is there."""
+    `address` says where."""
     options, memory = {'has_clock': False, **how.pop('options', {})}, how.pop('memory', 0)
     with tempfile.TemporaryDirectory() as folder:
         store = how.pop('store', None) or f'{folder}/a.store'
@@ -102,7 +102,7 @@ def records(number: int, answer: Optional[Answer], refused: Optional[Refused]) -
 
 
 def statements(script: bytes) -> 'list[str]':
-    """The statements of a script, without those of no token."""
+    """The statements of a script, without empty ones."""
     return [part.strip().rstrip(';') for part in parts_of(script.decode('utf-8') + ';')
             if part.strip().strip(';').strip()]
 
@@ -176,7 +176,7 @@ def is_plain(script: pathlib.Path) -> bool:
 
 
 def asks_nothing(texts: 'list[str]') -> bool:
-    """Whether one of these is a query without a table, which a client gets an answer to."""
+    """Whether some statement is a query without a table, which a client gets an answer to."""
     return any(re.match(r'(?:--[^\n]*\n|\s)*SELECT\b', text, re.I)
                and not re.search(r'\bFROM\b', text, re.I)
                for text in texts)
@@ -214,7 +214,7 @@ class Clients(unittest.TestCase):
         self.client.query(CREATE)
 
     def test_texts(self) -> None:
-        """Any text comes back as it went in, and is never SQL."""
+        """Any text comes back as it was given, and is never SQL."""
         chosen = random.Random(1)
         letters = "a'\"\\;-$%\n\t\r \u00e4\u4e2d\U0001f600"
         for number in range(60):
@@ -277,7 +277,7 @@ class Clients(unittest.TestCase):
         self.assertNotIn('Ann', self.server.log.getvalue())
 
     def test_tables(self) -> None:
-        """PostgreSQL's own tables know those of the store."""
+        """PostgreSQL's own tables list the store's."""
         found = self.client.query(
             "SELECT column_name, data_type FROM information_schema.columns"
             " WHERE table_name = 'PAY' ORDER BY ordinal_position")[0]
@@ -345,7 +345,7 @@ class Clients(unittest.TestCase):
 
     def test_tables_as_tools_name_them(self) -> None:
         """In double quotes or after the schema a table has its current rows, for sqlite; a query
-        that the profile has goes to the engine, and one by plain names is refused, with a hint."""
+        that the profile has is the engine's, and one by plain names is refused, with a hint."""
         for number in range(3):
             self.client.query(INSERT.format(number, 'Ann'))
         self.client.query(f'DELETE FROM public."PAY" WHERE "ENO" = 0; {INSERT.format(3, "Max")}'
@@ -473,7 +473,7 @@ class Clients(unittest.TestCase):
         self.assertEqual(self.server.engine.held.bytes, 0)
 
     def test_states(self) -> None:
-        """The SQLSTATE of each refusal of a script that has them all is that of docs/SERVER.md, and
+        """The SQLSTATE of each refusal of a script that has them all is as in docs/SERVER.md, and
         each has a place in its own text."""
         page = (ROOT / 'docs/SERVER.md').read_text('utf-8')
         wanted: 'dict[int, str]' = {}
@@ -682,7 +682,7 @@ class Safety(unittest.TestCase):
             self.assertEqual(store.clients, {})
 
     def test_killed_program(self) -> None:
-        """If the program dies in a change, the client is told that it is not known whether the
+        """If the program dies in a change, the client learns that it is not known whether the
         change is done, and the server ends with 2."""
         with served() as store, connected(store) as client:
             client.query(CREATE)
@@ -739,7 +739,7 @@ class Safety(unittest.TestCase):
             plain.sendall(struct.pack('!ii', 16, 80877102) + key)
 
     def test_many_clients(self) -> None:
-        """Clients that write at once, some of which die: what was told as done is in the store."""
+        """Clients that write at once, some of which die: what was called done is in the store."""
         told: 'list[int]' = []
 
         def work(first: int) -> None:
@@ -808,7 +808,7 @@ class Command(unittest.TestCase):
                 self.assertEqual(process.wait(30), 0)
 
     def test_end_within_a_change(self) -> None:
-        """SIGTERM ends the server when the change that runs is done and told."""
+        """SIGTERM ends the server when the change that runs is done and answered."""
         with tempfile.TemporaryDirectory() as folder:
             words = [sys.executable, str(ROOT / 'tools/serve'), '--folder', f'{folder}/socket',
                      f'{folder}/a.store']

@@ -1,7 +1,7 @@
 #!/usr/bin/env python3
 """Tests tools/session on a pseudo-terminal, as ./bitemporal_file starts it there.
 
-The program is the built one, or that of the variable BITEMPORAL.
+The program is the built one, or the one that the variable BITEMPORAL names.
 """
 import os
 import pty

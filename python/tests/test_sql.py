@@ -1,14 +1,14 @@
 #!/usr/bin/env python3
 """Compares bitemporal_tools.sql with the program, on random scripts. The variables SEED, CHECKS and
-RUNS choose others.
+RUNS choose the scripts.
 
-The scripts are those of random_checks.py and random_runs.py. Of the first the module has to
+The scripts are made by random_checks.py and random_runs.py. Of the first the module has to
 tell the report, the status and standard error of `check`. In every eighth it also has to tell of
 each statement without the right syntax the first token that no statement can have there, and all
 that could be there, as the grammar of fuzz/random_checks.py has it, which is data. Of the second it
 has to tell each refusal of `run`, the days of 42 and 43 too.
 
-The program is the built one, or that of the variable BITEMPORAL.
+The program is the built one, or the one that the variable BITEMPORAL names.
 """
 import re
 import support

@@ -109,7 +109,7 @@ class WireClient:
                 self.notices.append(fields_of(fields))
 
     def copy(self, text: str, chunks: Sequence[bytes]) -> str:
-        """The tag of a COPY of these bytes."""
+        """The tag of a COPY from its bytes."""
         self.send(b'Q', wire.text(text))
         kind, fields = wire.received(self.stream)
         if kind == b'E':
@@ -126,7 +126,7 @@ class WireClient:
 
     def ask(self, text: str, given: 'Sequence[str | None]' = (),
             types: Sequence[int] = ()) -> Answer:
-        """The answer to a statement with these values of its parameters, of these types if they
+        """The answer to a statement with these values of its parameters, with the types if they
         are declared."""
         values = b''.join(b'\xff\xff\xff\xff' if it is None else
                           struct.pack('!i', len(it.encode())) + it.encode() for it in given)

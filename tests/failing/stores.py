@@ -122,7 +122,7 @@ def dump(file):
 
 
 def rest(file):
-    """What is there beside the rows of the three tables."""
+    """What a database has besides the rows of the three tables."""
     return [line for line in dump(file) if not line.startswith('INSERT INTO "bt_')]
 
 

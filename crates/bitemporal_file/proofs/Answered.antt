@@ -42,11 +42,11 @@ unheard_is made history line = by_case (asked_in line) refl
     by_case None is = rw is refl
     by_case (Some command) is = rw is (inr (Memory, [], inl (Script Memory, may_stop command Memory (inl refl), refl, refl), refl))
 
--- a line without a command
+-- a line without a command is answered as a refused one
 pub answers-none : (made : List ℕ → List ℕ → Type 0) (history : History) (line told : List ℕ) → asked_in line ≡ None → told ≡ refused_line (word_in line) Syntax [] → IsAnswer made history line told
 answers-none made history line told none is = rw none is
 
--- a command that is done
+-- a command that makes no file, and is done, has made what it asks for
 makes_none : (made : List ℕ → List ℕ → Type 0) (history : History) (line : List ℕ) (command : SessionCommand) → makes_file command ≡ false → Makes made history line command
 makes_none made history line Tables none = tt
 makes_none made history line Clock none = tt
@@ -65,18 +65,18 @@ only_backup Verify makes = let no : ⊥ = cc in absurd no
 only_backup Backup makes = refl
 only_backup Help makes = let no : ⊥ = cc in absurd no
 
--- a copy that was made
+-- a backup whose copy was made is answered
 pub answers-copied : (made : List ℕ → List ℕ → Type 0) (history : History) (line told bytes : List ℕ) → asked_in line ≡ Some Backup → IsFileOf history bytes → made (file_in line) bytes → told ≡ done_line Backup → IsAnswer made history line told
 answers-copied made history line told bytes asked copy file is = rw asked (inl ((bytes, copy, file), is))
 
--- a copy that was stopped
+-- a backup that a fault stopped is answered
 pub answers-stopped : (made : List ℕ → List ℕ → Type 0) (history : History) (line told : List ℕ) (stopped : RunFault) → asked_in line ≡ Some Backup → IsBackupFault stopped → told ≡ refused_line (word_in line) (refusal_for stopped) (cause_of stopped) → IsAnswer made history line told
 answers-stopped made history line told stopped asked may is = rw asked (inr (refusal_for stopped, cause_of stopped, inl (stopped, may, refl, refl), is))
 
--- one whose file has no name
+-- a backup whose file has no name is answered
 pub answers-unnamed : (made : List ℕ → List ℕ → Type 0) (history : History) (line told : List ℕ) → asked_in line ≡ Some Backup → ¬ IsUtf8 (file_in line) → told ≡ refused_line (word_in line) NotUtf8 [] → IsAnswer made history line told
 answers-unnamed made history line told asked bad is = rw asked (inr (NotUtf8, [], inr (refl, bad, refl, refl), is))
 
--- a command that is refused
+-- a command that the store refuses is answered
 pub answers-refused : (made : List ℕ → List ℕ → Type 0) (history : History) (line told : List ℕ) (command : SessionCommand) (refusal : Refusal) → asked_in line ≡ Some command → IsStoreRefusal refusal → told ≡ refused_line (word_in line) refusal [] → IsAnswer made history line told
 answers-refused made history line told command refusal asked may is = rw asked (inr (refusal, [], inl (Script refusal, may_stop command refusal may, refl, refl), is))

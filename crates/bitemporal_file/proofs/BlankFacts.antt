@@ -29,7 +29,7 @@ is_rest InComment = true
 is_rest InText = true
 is_rest Ended = true
 
--- both
+-- the bytes are blanks and comments, from a place inside or outside a comment on
 abbrev pub is_all_blank : Place → List ℕ → Bool
 is_all_blank place [] = is_rest place
 is_all_blank place (byte ∷ bytes) = is_blank_at place byte && is_all_blank (place_after place byte) bytes
@@ -44,7 +44,7 @@ all_blank-parts place (byte ∷ bytes) =
     ap (λ b. is_blank_at place byte && b) (all_blank-parts (place_after place byte) bytes)
     ∙ and_assoc (is_blank_at place byte) (are_blank_from (place_after place byte) bytes) (is_rest (place_after_all (place_after place byte) bytes))
 
--- a comment goes to the end of its line
+-- a comment ends with its line
 comment-ends : (bytes : List ℕ) → is_all_blank InComment bytes ≡ is_all_blank Outside (drop (length (take_through line_feed bytes)) bytes)
 comment-ends [] = refl
 comment-ends (byte ∷ bytes) = elim (cases_Bool (byte == line_feed)) [
@@ -52,7 +52,7 @@ comment-ends (byte ∷ bytes) = elim (cases_Bool (byte == line_feed)) [
   | inr is ↦ rw is (comment-ends bytes)
 ]
 
--- another lexeme is first
+-- bytes are no blanks if their first lexeme is another one
 not-blank : (word digit text pair symbol : Bool) (w d n : ℕ) (size : Option ℕ) →
     (if word then front.Lexeme Word w else if digit then front.Lexeme Number d else if text then text_of_size size else if pair then front.Lexeme Symbol 2 else if symbol then front.Lexeme Symbol 1 else front.Bad) ≡ front.Blank n → ⊥
 not-blank true digit text pair symbol w d n size is = cc
@@ -91,14 +91,14 @@ dashes byte rest is =
     let next : rest ≡ 45 ∷ drop 2 (byte ∷ rest) = cc in
     (drop 2 (byte ∷ rest), first, next)
 
--- a comment first
+-- bytes that begin with a comment are blank if the rest is
 first-comment : (more : List ℕ) (n : ℕ) → front.Blank (1 + length (take_through line_feed (45 ∷ more))) ≡ front.Blank n → is_all_blank Outside (45 ∷ 45 ∷ more) ≡ is_all_blank Outside (drop n (45 ∷ 45 ∷ more))
 first-comment more n is =
     let size : 1 + length (take_through line_feed (45 ∷ more)) ≡ n = same_size (1 + length (take_through line_feed (45 ∷ more))) n is in
     let line : suc (suc (length (take_through line_feed more))) ≡ n = omega (arith, size) in
     subst (λ m. is_all_blank Outside (45 ∷ 45 ∷ more) ≡ is_all_blank Outside (drop m (45 ∷ 45 ∷ more))) line (comment-ends more)
 
--- a blank is first
+-- bytes that begin with a blank are blank if the rest is
 first-blank : (bytes : List ℕ) (n : ℕ) → first_lexeme bytes ≡ front.Blank n → is_all_blank Outside bytes ≡ is_all_blank Outside (drop n bytes)
 unfolding first_lexeme
 first-blank [] n is = let no : ⊥ = cc in absurd no
@@ -124,12 +124,12 @@ no_token-blank lexis.TokensFrom.ended none = refl
 no_token-blank (lexis.TokensFrom.blank {bytes = bytes} n first rest) none = first-blank bytes n first ∙ no_token-blank rest none
 no_token-blank (lexis.TokensFrom.token k n first rest) none = let no : ⊥ = cc in absurd no
 
--- white space first
+-- no token follows if white space is first, and none follows it
 space-no_token : (at byte : ℕ) (rest : List ℕ) → is_blank byte ≡ true → TokensFrom (at + 1) rest [] → TokensFrom at (byte ∷ rest) []
 unfolding first_lexeme
 space-no_token at byte rest blank after = lexis.TokensFrom.blank 1 (rw blank refl) after
 
--- a comment first
+-- no token follows if a comment is first, and none follows it
 line-no_token : (at : ℕ) (more : List ℕ) → TokensFrom ((at + 2) + length (take_through line_feed more)) (drop (length (take_through line_feed more)) more) [] → TokensFrom at (45 ∷ 45 ∷ more) []
 unfolding first_lexeme
 line-no_token at more after =
@@ -182,7 +182,7 @@ mutual
 abbrev pub is_blank_so_far : List ℕ → Bool
 is_blank_so_far bytes = are_blank_from Outside (drop (byte_order_mark_size bytes) bytes)
 
--- so few bytes do not begin with it
+-- fewer than three bytes do not begin with the mark
 unmarked : (bytes : List ℕ) → length bytes < 3 → byte_order_mark_size bytes ≡ 0
 unmarked bytes few = rw (false_from_ne_true (starts_with nat_eq bytes byte_order_mark) (λ is. too_few (begins bytes is))) refl
   where
@@ -201,7 +201,7 @@ place-marked bytes = elim (cases_Bool (starts_with nat_eq bytes byte_order_mark)
   | inr is ↦ rw is refl
 ]
 
--- at the end
+-- bytes that are blank up to their end have no token
 pub blank-none : (bytes : List ℕ) → is_blank_so_far bytes ≡ true → place_after_all Outside bytes ≢ AfterDash → HasNoToken bytes
 blank-none bytes blank end =
     let after = drop (byte_order_mark_size bytes) bytes in
@@ -224,7 +224,7 @@ none-blank bytes none =
     no_rest : (place : Place) → is_rest place ≡ true → place ≡ AfterDash → ⊥
     no_rest place rest is = let no : is_rest AfterDash ≡ true = subst (λ p. is_rest p ≡ true) is rest in cc
 
--- one byte more
+-- bytes with one more byte are blank if they are, and it is
 are_blank-more : (place : Place) (bytes : List ℕ) (byte : ℕ) → are_blank_from place (bytes ++ byte ∷ []) ≡ (are_blank_from place bytes && is_blank_at (place_after_all place bytes) byte)
 are_blank-more place [] byte = and_true (is_blank_at place byte)
   where

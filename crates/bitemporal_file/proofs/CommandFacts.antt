@@ -11,7 +11,7 @@ use Rattle.bitemporal_file.specs.declared.parts.CommandLine.{CommandLine}
 use Rattle.bitemporal_file.specs.Parts.{CommandBegins, HasNoCommand, IsCommandLine, IsRestOfLine, begins_line, dot, place_after, place_after_all}
 use Rattle.bitemporal_file.proofs.BlankFacts.{blank-none, is_blank_so_far, none-blank}
 
--- one byte more
+-- after one more byte a line begins if the byte is a line feed
 pub line-more : (starts : Bool) (bytes : List ℕ) (byte : ℕ) → begins_line starts (bytes ++ byte ∷ []) ≡ (byte == line_feed)
 line-more starts [] byte = refl
 line-more starts (first ∷ bytes) byte = line-more (first == line_feed) bytes byte
@@ -54,11 +54,11 @@ last-dot (first ∷ all) byte (other ∷ front) rest is =
           inr (found.0, alike)
     ]
 
--- no byte yet
+-- before the first byte there is no command
 pub no_command-nil : (starts : Bool) → HasNoCommand starts []
 no_command-nil starts front rest is begins = omega (arith, ap length is, length-append front (dot ∷ rest))
 
--- one byte more that begins none
+-- one byte more begins no command
 pub no_command-more : (starts : Bool) (all : List ℕ) (byte : ℕ) → HasNoCommand starts all → (is_blank_so_far all && (begins_line starts all && (byte == dot))) ≡ false → HasNoCommand starts (all ++ byte ∷ [])
 no_command-more starts all byte none off front rest is begins = elim (last-dot all byte front rest is) [
   | inl found ↦

@@ -16,7 +16,7 @@ use Rattle.script_engine.specs.engine.EngineState.{EngineState}
 use Rattle.script_engine.specs.engine.Stored.{EngineRepresents}
 use Rattle.bitemporal_file.specs.Listing.{AreCountsOf, clock_line, listing_of, table_lines, tables_lines, version_count}
 
--- the rows of a table of these contents are as many as the versions that the history leaves of it
+-- the rows of a table of the contents are as many as the versions that the history leaves of it
 pub row-count : {S : Type 0} (g : Ghosts S) (history : History) (engine : EngineState S) (stands : EngineRepresents g history engine) (table : ℕ) (rows : List VersionRow) → AreRowsOf stands.contents table rows → length rows ≡ version_count history table
 row-count g history engine stands table rows are =
     let held = stands.said.versions table in
@@ -25,7 +25,7 @@ row-count g history engine stands table rows are =
     let plain = length_permutation (map plain_version held.rows) (versions_of history table) held.left in
     sym (length-map rows (version_in table)) ∙ mine ∙ sym its ∙ length-map held.rows (version_in table) ∙ sym (length-map held.rows plain_version) ∙ sym plain
 
--- one count more
+-- the counts of the tables so far, with one table's more
 pub count-more : (history : History) (counts : List ℕ) (i count : ℕ) → length counts ≡ i → ((place : ℕ) → place < i → get_or counts place 0 ≡ version_count history (place + 1)) → count ≡ version_count history (i + 1) →
     (place : ℕ) → place < i + 1 → get_or (counts ++ count ∷ []) place 0 ≡ version_count history (place + 1)
 count-more history counts i count size so_far is =
@@ -44,7 +44,7 @@ counted-alike tables first second n (table ∷ rest) same =
     ap (λ v. table_lines tables n table v ++ tables_lines tables first (n + 1) rest) here
     ∙ ap (λ r. table_lines tables n table (second n) ++ r) (counted-alike tables first second (n + 1) rest behind)
 
--- the list of an engine is that of its history
+-- the list of an engine is its history's
 listed-of : {S : Type 0} (g : Ghosts S) (history : History) (engine : EngineState S) (counts : List ℕ) → EngineRepresents g history engine → AreCountsOf history counts →
     clock_line engine.clock ++ tables_lines engine.catalog.tables (λ (number : ℕ). get_or counts (number - 1) 0) 1 engine.catalog.tables ≡ listing_of history
 listed-of g history engine counts stands are =
@@ -61,7 +61,7 @@ listed-of g history engine counts stands are =
         let number : k + 1 ≡ 1 + k = omega arith in
         ap (λ p. get_or counts p 0) place ∙ are k below ∙ ap (version_count history) number
 
--- a list that was put together of an engine is that of its history
+-- a list that is put together from an engine is its history's
 pub list-of : {S : Type 0} (g : Ghosts S) (history : History) (engine : EngineState S) (counts : List ℕ) → EngineRepresents g history engine → AreCountsOf history counts →
     (catalog : Catalog) (slice : List ℕ) (moment : ℤ) (empty tables clock bytes whole : List ℕ) → catalog ≡ engine.catalog → slice ≡ counts → moment ≡ engine.clock → empty ≡ [] →
     tables ≡ empty ++ tables_lines catalog.tables (λ (number : ℕ). get_or slice (number - 1) 0) 1 catalog.tables → clock ≡ clock_line moment → bytes ≡ tables → whole ≡ clock ++ bytes → whole ≡ listing_of history

@@ -7,13 +7,13 @@ use Rattle.std.proofs.lemmas.List.{append-nil, flat_map_more, take_more}
 use Rattle.catalog_core.specs.declared.table.TableDef.{TableDef}
 use Rattle.bitemporal_file.specs.Listing.{key_line, name_at, next_field, pair_names, table_lines, tables_lines}
 
--- one text more
+-- a list's text, with one element's more
 pub text-more : {X : Type 0} (f : X → List ℕ) (xs : List X) (i : ℕ) (x : X) (old text new : List ℕ) → i < length xs → x ≡ get_or xs i x → text ≡ old ++ flat_map f (take i xs) → new ≡ text ++ f x → new ≡ old ++ flat_map f (take (i + 1) xs)
 text-more f xs i x old text new within is so_far more =
     let front : take i xs ++ x ∷ [] ≡ take (i + 1) xs = ap (λ y. take i xs ++ y ∷ []) is ∙ sym (take_more xs i x within) in
     more ∙ ap (λ t. t ++ f x) so_far ∙ flat_map_more f old (take i xs) x ∙ ap (λ ys. old ++ flat_map f ys) front
 
--- one pair of names more
+-- a reference's text, with one pair of names more
 pub pair-more : (child parent : TableDef) (own keys owns others : List ℕ) (place key : ℕ) (text first second whole : List ℕ) → own ≡ place ∷ owns → keys ≡ key ∷ others →
     first ≡ text ++ next_field (name_at child place) → second ≡ first ++ next_field (name_at parent key) →
     text ++ flat_map next_field (flat_map (pair_names child parent) (zip own keys)) ≡ whole →
@@ -26,7 +26,7 @@ pair-more child parent own keys owns others place key text first second whole is
     ∙ append_assoc text (next_field (name_at child place)) (next_field (name_at parent key) ++ rest)
     ∙ here
 
--- no pair is left
+-- a reference's text is whole if no pair is left
 pub pairs-end : (child parent : TableDef) (own keys text whole : List ℕ) → (own ≡ []) ⊎ (keys ≡ []) →
     text ++ flat_map next_field (flat_map (pair_names child parent) (zip own keys)) ≡ whole → text ≡ whole
 pairs-end child parent own keys text whole none so_far =
@@ -46,7 +46,7 @@ drop_first tables i table within is =
     let same : table ∷ drop (i + 1) tables ≡ table ∷ drop (suc i) tables = ap (λ n. table ∷ drop n tables) next in
     same ∙ ap (λ (t : TableDef). t ∷ drop (suc i) tables) is ∙ sym here
 
--- one table more
+-- the list's text, with one table's more
 pub table-more : (tables : List TableDef) (versions : ℕ → ℕ) (i : ℕ) (table : TableDef) (text new whole : List ℕ) → i < length tables → table ≡ get_or tables i table →
     new ≡ text ++ table_lines tables (i + 1) table (versions (i + 1)) →
     text ++ tables_lines tables versions (i + 1) (drop i tables) ≡ whole →
@@ -67,7 +67,7 @@ pub where-ok : {T E A : Type 0} (result : Result T E) (new pushed old : A) → n
 where-ok (Ok x) new pushed old is = is
 where-ok (Err e) new pushed old is = tt
 
--- a key's record
+-- the record of a table's key
 pub key-text : (n : ℕ) (table : TableDef) (old begun named new : List ℕ) → begun ≡ old ++ (codes "key," ++ decimal n) →
     named ≡ begun ++ flat_map (λ (place : ℕ). next_field (name_at table place)) table.key → new ≡ named ++ codes "\n" → new ≡ old ++ key_line n table
 key-text n table old begun named new first second third =

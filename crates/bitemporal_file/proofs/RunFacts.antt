@@ -44,7 +44,7 @@ pub same_refusal : (refusal other : Refusal) → Script refusal ≡ Script other
 same_refusal refusal other is = cc
 
 module _ {W K : Type 0} (contents : W → Option (List ℕ)) (text : ℕ → K → List ℕ) (status : K → ℕ) where
-  -- nothing was run
+  -- a run that a fault ended before any script
   pub none_run : (readers : List (Option (List ℕ))) (old : Reporter W) (next : ℕ) (fault : RunFault) → old.fault ≡ None → ((refusal : Refusal) → fault ≡ Script refusal → MayRefuseNext {K = K} readers [] refusal) →
       Ends contents text status readers old [] (Err fault) (record old { next = next })
   none_run readers old next fault quiet may = record {
@@ -62,7 +62,7 @@ module _ {W K : Type 0} (contents : W → Option (List ℕ)) (text : ℕ → K �
       is_fault : (refusal : Refusal) → ◌≡◌ {A = Result Bool RunFault} (Err fault) (Err (Script refusal)) → fault ≡ Script refusal
       is_fault refusal is = cc
 
-  -- no script was named yet
+  -- a run before its first script
   pub none_yet : (old : Reporter W) → old.fault ≡ None → Ends {K = K} contents text status [] old [] (Ok true) old
   none_yet old quiet = record {
     stops = refl;
@@ -146,7 +146,7 @@ module _ {W K : Type 0} (contents : W → Option (List ℕ)) (text : ℕ → K �
         refused = λ refusal same. absurd (is_none_of_script fault refusal (its_own new.fault fault is may) (same_fault fault (Script refusal) same));
       }
 
-  -- without a fault of the report
+  -- a run that ended well is without a fault of the report
   pub quiet_of : (fault : Option RunFault) (ended : Result Bool RunFault) (flow : Bool) → IfSome fault (λ f. IsReportFault f × (ended ≡ Err f)) → ended ≡ Ok flow → fault ≡ None
   quiet_of None ended flow may is = refl
   quiet_of (Some f) ended flow may is = let wrong : ◌≡◌ {A = Result Bool RunFault} (Ok flow) (Err f) = sym is ∙ may.1 in let no : ⊥ = cc in absurd no
@@ -233,7 +233,7 @@ module _ {W K : Type 0} (contents : W → Option (List ℕ)) (text : ℕ → K �
 
 -- ---- runs that came to their ends
 
--- the run continues where it does not stop
+-- the run continues if it does not stop
 pub went_on : (goes_on : Bool) → ◌≢◌ {A = Result Bool RunFault} (Ok goes_on) (Ok false) → goes_on ≡ true
 went_on true on = refl
 went_on false on = absurd (on refl)
@@ -246,15 +246,15 @@ module _ {X : Type 0} (Holds : X → Type 0) where
   all_but_last-append (x ∷ next ∷ xs) ys all but = (All-head Holds x (next ∷ xs) all, all_but_last-append (next ∷ xs) ys (All-tail Holds x (next ∷ xs) all) but)
 
 module _ {K : Type 0} where
-  -- none was run
+  -- runs of no script
   pub none_ran : (ended : Result Bool RunFault) (fault : Option RunFault) → AreRun {K = K} [] ended fault
   none_ran ended fault = record { before = tt; last = λ quiet on. All-nil (IsWhole {K = K}) }
 
-  -- one was
+  -- a run of one script
   pub one_ran : (run : ScriptRun K) (ended : Result Bool RunFault) (fault : Option RunFault) → (fault ≡ None → ended ≢ Ok false → run.is_whole ≡ true) → AreRun (run ∷ []) ended fault
   one_ran run ended fault whole = record { before = tt; last = λ quiet on. All-cons (IsWhole {K = K}) run [] (whole quiet on) (All-nil (IsWhole {K = K})) }
 
-  -- others after those that came to their ends
+  -- more runs after runs that came to their ends
   pub more_ran : (runs more : List (ScriptRun K)) (ended : Result Bool RunFault) (fault : Option RunFault) → All IsWhole runs → AreRun more ended fault → AreRun (runs ++ more) ended fault
   more_ran runs more ended fault wholes after = record {
     before = all_but_last-append (IsWhole {K = K}) runs more wholes after.before;
@@ -265,7 +265,7 @@ module _ {K : Type 0} where
   whole_ran runs more ended fault wholes after on quiet =
       All-append (IsWhole {K = K}) runs more wholes (after.last quiet (λ off. let no : ◌≡◌ {A = Result Bool RunFault} (Ok true) (Ok false) = sym on ∙ off in cc))
 
-  -- no other
+  -- whole runs of several scripts
   pub all_ran : (runs : List (ScriptRun K)) (ended : Result Bool RunFault) (fault : Option RunFault) → All IsWhole runs → AreRun runs ended fault
   all_ran runs ended fault wholes = subst (λ (rs : List (ScriptRun K)). AreRun rs ended fault) (append-nil runs) (more_ran runs [] ended fault wholes (none_ran ended fault))
 

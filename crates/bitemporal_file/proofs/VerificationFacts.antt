@@ -27,7 +27,7 @@ plain_rows : (table : ℕ) (rows : List VersionRow) → map plain_of (map (versi
 plain_rows table [] = refl
 plain_rows table (row ∷ rows) = ap (λ vs. plain_version row ∷ vs) (plain_rows table rows)
 
--- the rows of a table of these contents are, in whatever order, the versions that the history leaves of it
+-- the rows of a table of the contents are, in whatever order, the versions that the history leaves of it
 rows-left : {S : Type 0} (g : Ghosts S) (history : History) (engine : EngineState S) (stands : EngineRepresents g history engine) (table : ℕ) (rows : List VersionRow) → AreRowsOf stands.contents table rows
     → IsPermutation (map plain_version rows) (versions_of history table)
 rows-left g history engine stands table rows are =
@@ -38,16 +38,16 @@ rows-left g history engine stands table rows are =
     let here : IsPermutation (map plain_version rows) (map plain_version held.rows) = rw (plain_rows table rows, plain_rows table held.rows) at plain in
     IsPermutation-trans (map plain_version rows) (map plain_version held.rows) (versions_of history table) here held.left
 
--- so they spell what these spell
+-- the rows of a table spell what the history's versions spell
 pub rows-spelled : {S : Type 0} (g : Ghosts S) (history : History) (engine : EngineState S) (stands : EngineRepresents g history engine) (table : ℕ) (rows : List VersionRow) → AreRowsOf stands.contents table rows
     → versions_bytes (map plain_version rows) ≡ versions_bytes (versions_of history table)
 rows-spelled g history engine stands table rows are = versions-alike (map plain_version rows) (versions_of history table) (rows-left g history engine stands table rows are)
 
--- one number more
+-- a list made of the numbers up to n, with one more
 pub up_to-more : {X : Type 0} (make : ℕ → List X) (n : ℕ) → up_to make n ++ make (n + 1) ≡ up_to make (n + 1)
 up_to-more make n = subst (λ m. up_to make n ++ make m ≡ up_to make m) (sym (add-one n)) refl
 
--- one table more
+-- the rows of the tables so far, with one table's more
 pub tables-more : {S : Type 0} (g : Ghosts S) (history : History) (engine : EngineState S) (stands : EngineRepresents g history engine) (i : ℕ) (rows : List VersionRow) (bytes : List ℕ) → AreRowsOf stands.contents (i + 1) rows
     → (bytes ++ tables_bytes history i) ++ versions_bytes (map plain_version rows) ≡ bytes ++ tables_bytes history (i + 1)
 tables-more g history engine stands i rows bytes are =
@@ -55,7 +55,7 @@ tables-more g history engine stands i rows bytes are =
     ∙ ap (λ spelled. bytes ++ (tables_bytes history i ++ spelled)) (rows-spelled g history engine stands (i + 1) rows are)
     ∙ ap (λ spelled. bytes ++ spelled) (up_to-more (λ table. versions_bytes (versions_of history table)) i)
 
--- one count more
+-- the counts of the tables so far, with one table's more
 pub counts-more : (history : History) (i count : ℕ) (counts new : List ℕ) → counts ≡ version_counts history i → new ≡ counts ++ count ∷ [] → count ≡ version_count history (i + 1) → new ≡ version_counts history (i + 1)
 counts-more history i count counts new so_far pushed is =
     pushed

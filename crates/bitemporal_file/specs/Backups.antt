@@ -13,7 +13,7 @@ use Rattle.bitemporal_file.specs.StoreFiles.{Filing}
 use Rattle.bitemporal_file.specs.StoreRuns.{LeadsDatabase, Uses}
 use Rattle.bitemporal_file.specs.declared.reporter.Reporter.{Reporter}
 
--- a copy of an open store is made: the history stays, and where its disk returned what was written
+-- a copy of an open store is made: the history stays, and if its disk returned what was written
 -- the bytes that were made are a file of that history
 pub record IsCopied {S : Type 0} (g : Ghosts S) (opened : Held S) (ended : Result Memory RunFault)
     (closed : Held S) : Type 0 where

@@ -166,11 +166,11 @@ IsAnswer made history line told =
     ⊎ ((refusal : Refusal) × (cause : List ℕ) × IsRefusedFor line command refusal cause
     × (told ≡ refused_line (word_in line) refusal cause)))
 
--- a line is answered so, where the system makes files, and the history stays
+-- a line is answered so, if the system makes files, and the history stays
 abbrev pub IsAnswered : (List ℕ → List ℕ → Type 0) → History → List ℕ → List ℕ → History → Type 0
 IsAnswered made history line told last = IsAnswer made history line told × (last ≡ history)
 
--- a line is answered over an engine, whatever its database holds: what others have in it they keep
+-- a line is answered over an engine, whatever its database holds: its other tables stay
 pub record IsAnsweredOver {S : Type 0} (g : Ghosts S) (first : EngineState S) (line told : List ℕ)
     (last : EngineState S) : Type 0 where
   pub usable : WasUsable g first.connection last.connection

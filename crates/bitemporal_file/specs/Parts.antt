@@ -51,7 +51,7 @@ HasNoToken bytes = TokensOf bytes []
 abbrev pub IsUnfinished : List ℕ → Type 0
 IsUnfinished bytes = IsOpen bytes × ¬ HasNoToken bytes
 
--- the part that is kept: its bytes, or that it has more than a script may have, and how many; of
+-- the part as it is held: its bytes, or that it has more than a script may have, and how many; of
 -- the line of a command how many bytes it has, with the blanks and comments before it
 abbrev pub IsPartOf : List ℕ → Part → Type 0
 IsPartOf bytes (Whole kept) = (kept.items ≡ bytes) × (length bytes ≤ most_bytes)
@@ -90,7 +90,7 @@ abbrev pub HasNoCommand : Bool → List ℕ → Type 0
 HasNoCommand starts bytes =
     (front rest : List ℕ) → bytes ≡ front ++ dot ∷ rest → ¬ CommandBegins starts front
 
--- the line of a command that is kept: of one that has more bytes than a script may have nothing
+-- the held line of a command: of one that has more bytes than a script may have, nothing
 pub record IsKeptOf (line kept : List ℕ) : Type 0 where
   pub whole : length line ≤ most_bytes → kept ≡ line
   pub none : most_bytes < length line → kept ≡ []
@@ -100,7 +100,7 @@ pub record IsLineUpTo (line end : List ℕ) (left : Option (List ℕ)) : Type 0 
   pub one : All (λ byte. byte ≢ line_feed) line
   pub ends : (end ≡ line_feed ∷ []) ⊎ ((end ≡ []) × IsAtEnd left)
 
--- the bytes are blanks and comments, and then the line of a command, of which this is kept
+-- the bytes are blanks and comments, and then the line of a command, which is held as these bytes
 pub record IsCommandLine (starts : Bool) (bytes kept : List ℕ) (left : Option (List ℕ)) : Type 0
   where
     pub front : List ℕ

@@ -22,7 +22,7 @@ abbrev pub names_program : List Text → Bool
 names_program [] = false
 names_program (word ∷ words) = starts_with nat_eq (last_component word) (codes "bitemporal_file")
 
--- the words of a command line ask for this: no fault is found in them, and where they are in the
+-- the words of a command line ask for this: no fault is found in them, and if they are in the
 -- usual form they say so
 pub record IsAskedBy (words : List Text) (asked : Request) : Type 0 where
   pub sound : fault_of bitemporal_file words ≡ []

@@ -50,11 +50,11 @@ pub record ReceivesResult {W K : Type 0} (contents : W → Option (List ℕ)) (t
   -- the greatest status so far
   pub worst : new.worst ≡ max old.worst (status kept)
   pub low : old.worst ≤ 3 → new.worst ≤ 3
-  -- without a fault its records are written, numbered on, and nothing else
+  -- if there is no fault, its records are written, numbered on, and nothing else
   pub written : new.fault ≡ None
       → Appends (contents old.out) (contents new.out) (text old.next kept)
       × (new.next ≡ old.next + 1)
-  -- the run goes on if there is no fault, and with --stop only after a statement that has status 0
+  -- the run continues if there is no fault, and with --stop only if the statement has status 0
   pub on : goes_on ≡ true
       → (new.fault ≡ old.fault) × (old.stops ≡ true → status kept ≡ 0)
   pub off : goes_on ≡ false → old.fault ≡ None
@@ -72,7 +72,7 @@ greatest_from status worst [] = worst
 greatest_from status worst (result ∷ results) =
     greatest_from status (max worst (status result)) results
 
--- none but the last has another status than 0
+-- no result but the last has another status than 0
 abbrev pub EndsAtRefusal : {K : Type 0} → (K → ℕ) → List K → Type 0
 EndsAtRefusal status [] = ⊥
 EndsAtRefusal status (result ∷ results) =

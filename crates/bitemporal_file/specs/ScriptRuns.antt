@@ -19,7 +19,7 @@ pub record ScriptRun (K : Type 0) : Type 0 where
   pub results : List K
   pub is_whole : Bool
 
--- the results are those of the scripts, each run from the state to which the one before it led, as
+-- the results belong to the scripts, each run from the state to which the one before it led, as
 -- a history
 abbrev pub LeadsTo : {H K : Type 0} → (H → List Lexeme → K → H → Type 0)
     → H → List (ScriptRun K) → H → Type 0

@@ -36,8 +36,8 @@ PartStep IsStep refused start opening run last =
 
 -- ---- the turns of a session
 
--- a turn of a session: a part is run; or of the line of a command, which these bytes are, this is
--- kept and that is reported
+-- a turn of a session: a part is run, or the line of a command is answered: its bytes, as many of
+-- them as are held, and the answer
 pub data Turn (K : Type 0) : Type 0 where
   Ran : (run : ScriptRun K) → Turn K
   LineAnswered : (bytes line told : List ℕ) → Turn K
@@ -117,7 +117,7 @@ LeadsThrough {H} IsStep refused IsAnswered start opening (turn ∷ turns) last =
     (middle : H) × TurnStep IsStep refused IsAnswered start opening turn middle
     × LeadsThrough IsStep refused IsAnswered (start + length (bytes_in turn)) middle turns last
 
--- known bytes are those of the turns, the first of which begins a line or does not, and then these
+-- known bytes are the turns' bytes, the first of which begins a line or does not, and then the rest
 abbrev pub AreCut : {K : Type 0} → Bool → Option (List ℕ) → List (Turn K) → Option (List ℕ)
     → Type 0
 AreCut starts known [] left = left ≡ known
@@ -139,7 +139,7 @@ IsSessionFault failed Unfinished = ⊤
 IsSessionFault failed _ = ⊥
 
 -- the known bytes of an input, which begin a line and whose reader has failed or not, begin with
--- those of the turns
+-- the bytes of the turns
 pub record AreTurnsOf {K : Type 0} (known : Option (List ℕ)) (failed : Bool)
     (turns : List (Turn K)) (ended : Result Bool RunFault) : Type 0 where
   -- each is up to its semicolon, or the line of a command
@@ -152,7 +152,7 @@ pub record AreTurnsOf {K : Type 0} (known : Option (List ℕ)) (failed : Bool)
       → IfSome left (λ rest. IsUnfinished rest × HasNoCommand (begins_after true turns) rest)
   pub fault : IfErr ended (IsSessionFault failed)
 
--- the end of a session whose reporter received the results of these turns, before a fault or not
+-- the end of a session whose reporter received the turns' results, before a fault or not
 pub record EndsWith {W K : Type 0} (contents : W → Option (List ℕ)) (text : ℕ → K → List ℕ)
     (status : K → ℕ) (old : Reporter W) (turns : List (Turn K)) (ended : Result Bool RunFault)
     (new : Reporter W) : Type 0 where
@@ -165,7 +165,7 @@ pub record EndsWith {W K : Type 0} (contents : W → Option (List ℕ)) (text : 
   pub written : new.fault ≡ None
       → Appends (contents old.out) (contents new.out) (turns_text text old.next turns)
   pub faulty : IfSome new.fault (λ fault. IsReportFault fault × (ended ≡ Err fault))
-  -- at its end, with --stop without a refusal; or at the first
+  -- the session is at its end, with --stop without a refusal; or at the first refusal
   pub whole : ended ≡ Ok true → old.stops ≡ true
       → All (λ result. status result ≡ 0) (all_results turns)
   pub stopped : ended ≡ Ok false

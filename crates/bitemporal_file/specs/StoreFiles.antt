@@ -26,7 +26,7 @@ use Rattle.bitemporal_file.specs.declared.stores.StoreEnd.{StoreEnd}
 use Rattle.bitemporal_file.specs.declared.stores.StoreEnd.TheVariants.{Unopened, Refused, GivenUp}
 use Rattle.bitemporal_file.specs.declared.stores.StoreEnd.TheVariants.{Closed, Unclosed}
 
--- as what a failure of the database library is reported
+-- the fault that a failure of the database library is reported as
 abbrev pub fault_for : Error → RunFault
 fault_for (SqliteFailure DatabaseBusy) = Locked
 fault_for (SqliteFailure CannotOpen) = NoStore
@@ -42,7 +42,7 @@ Finds image connection =
     HasCleanDisk (file_state connection)
     → IsOpened connection × FindsIn image (file_state connection)
 
--- why there is no connection to the database of the files, which held this
+-- why there is no connection to the database of the files with this content
 abbrev pub FailsToOpen : {D : Type 0} {g : Ghosts D} → Image → StoreEnd D g → RunFault → Type 0
 -- the system does not give the files, another program has them, or memory is out
 FailsToOpen image Unopened fault = (fault ≡ NoStore) ⊎ ((fault ≡ Locked) ⊎ (fault ≡ Memory))
@@ -63,7 +63,7 @@ IsInFiles {D} {g} (Closed files) connection =
     AreClean g files.log files.db → IsCopied connection files
 IsInFiles _ connection = ⊥
 
--- the connection was given up or closed so, or it was not closed since the disk failed or memory is
+-- the connection was given up or closed, or it was not closed since the disk failed or memory is
 -- out: then a crash has no new outcome
 abbrev pub IsLeftAs : {D : Type 0} {g : Ghosts D} → StoreEnd D g → Held (FileStore D g) → Type 0
 IsLeftAs (GivenUp left) connection = manually_drop_value left ≡ connection
@@ -71,7 +71,7 @@ IsLeftAs {D} {g} (Closed files) connection = IsInFiles {D = D} {g = g} (Closed f
 IsLeftAs (Unclosed left) connection = IsClosed connection left
 IsLeftAs _ connection = ⊥
 
--- as what a failure of the database library is told that comes as a connection is closed
+-- the fault of a run for an error of the database library while a connection is closed
 abbrev pub fault_for_closing : Error → RunFault
 fault_for_closing (SqliteFailure OutOfMemory) = Memory
 fault_for_closing _ = Script Store
@@ -95,7 +95,7 @@ pub record Filing (S : Type 0) : Type 1 where
   -- the files were not closed, for this cause
   pub Unclosed : Held S → RunFault → Type 0
 
--- the fault is the one that ended what was done over the connection, or else that of closing it
+-- the fault is the one that ended the work over the connection, or else the fault of closing it
 abbrev pub IsItsFault : {T : Type 0} → (RunFault → Type 0) → Result T RunFault → RunFault → Type 0
 IsItsFault IsOfClosing (Err cause) fault = cause ≡ fault
 IsItsFault IsOfClosing (Ok value) fault = IsOfClosing fault

@@ -327,7 +327,7 @@ fn answer_to_backup<S: Alter, C: System>(
     }
 }
 
-/// The answer to a line that begins with a dot, after which this comes. Nothing is changed.
+/// The answer to a line that begins with a dot, from these bytes after the dot. Nothing is changed.
 pub(crate) fn answer_to_line<S: Alter, C: System>(
     alloc: Global,
     engine: &mut Engine<S>,

@@ -33,7 +33,7 @@ fn fault_of(error: &io::Error) -> RunFault
     }
 }
 
-/// Makes a file of these bytes. They are written to the file of the same name with `.part` after
+/// Makes a file with these bytes. They are written to the file of the same name with `.part` after
 /// it and synced; the file then gets its name by a link, which never takes the place of another
 /// file, and loses the first one.
 pub(crate) fn make_file(rt: &HostRuntime, name: &str, bytes: &[u8]) -> Result<(), RunFault>

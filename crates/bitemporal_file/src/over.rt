@@ -172,7 +172,7 @@ fn run_opened<S: Alter, C: System, Q: Scripts, R: Read, W: Write>(
     }
 }
 
-/// Closes the store after what was done over it. Where that failed before any statement was run,
+/// Closes the store after what was done over it. If that failed before any statement was run,
 /// and the store is new, no file of it stays.
 pub(crate) fn end_over<S: Start + Copy, T: Drop, W>(
     stores: &mut StoreFiles<'_, S>,

@@ -163,7 +163,7 @@ fn is_blank_after(is_blank: bool, place: Place, kept: &[u8], before: usize, byte
     before == 2 && byte_order_mark_size(kept) == 3 || is_blank && place.is_blank_at(byte)
 }
 
-// The part that has so many bytes, which are kept if a script may have as many.
+// The part of so many bytes, which are held if a script may have as many.
 fn part_of(bytes: Vec<u8>, count: usize) -> Part
     ensures { (starts : Bool) (all : List ℕ) (left : Option (List ℕ)) → count ≡ length all
         → (count ≤ most_bytes → bytes.items ≡ all) → EndsAtSemicolon all
@@ -241,7 +241,7 @@ fn read_line<R: Read>(
 
 /// Reads the next part of a session, whose first byte begins a line or does not, and nothing after
 /// its semicolon or its line. Of one that has more bytes than a script may have no more than that
-/// is kept. Nothing if only blanks and comments are left.
+/// is held. Nothing if only blanks and comments are left.
 pub(crate) fn read_part<R: Read>(
     alloc: Global,
     input: &mut Tracked<R>,

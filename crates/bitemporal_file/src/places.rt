@@ -29,7 +29,7 @@ pub trait Places {
     // There may be nothing at this place.
     ghost may_lack: { Self → List ℕ → Type 0 };
 
-    /// The place to which a name leads. An `Err` is that nothing is there, or out of memory.
+    /// The place to which a name leads. An `Err` is that it leads nowhere, or out of memory.
     fn place_of(&self, alloc: Global, name: &str) -> Result<String, RunFault>
         ensures leads { IfOk result (λ place. leads_to self.now name.now (string_bytes place)) }
         ensures fault { IfErr result IsReadFault };

@@ -224,7 +224,7 @@ fn read_over<Q: Scripts + Places, R: Read, W: Write>(
     }
 }
 
-// Tells what is asked of the store that is named, of which only the files are read. Gives the exit
+// Reports what is asked of the named store, of which only the files are read. Gives the exit
 // status.
 fn inspect_read<Q: Scripts + Places, W: Write>(
     rt: &HostRuntime,

@@ -1,4 +1,4 @@
-//! The writer of a run's report as it goes: the records of a statement as soon as it is done.
+//! The writer of a run's report in parts: the records of a statement as soon as it is done.
 
 ghost use Rattle.std.specs.Prelude.{◌≡◌, ◌≤◌, ◌+◌, ℕ, Err, IfErr, IfSome, IsSome, List, None};
 ghost use Rattle.std.specs.Prelude.{OnOk, false, true};
@@ -40,7 +40,7 @@ pub(crate) trait Reported {
         ensures { OnOk result
             (Appends (W.contents out.old) (W.contents out.new) (text number self.now)) };
 
-    /// The exit status for its sake: 3 where its audit did not agree or was refused, 1 where the
+    /// The exit status for its sake: 3 if its audit did not agree or was refused, 1 if the
     /// statement was refused, else 0.
     fn status(&self) -> u8
         ensures value { result ≡ status_of self.now }
@@ -138,7 +138,7 @@ impl<K: Reported> Reported for Timed<K> {
     }
 }
 
-/// A report that is written as the run goes, and what the run has come to.
+/// A report that is written during the run, and what the run has come to.
 #[derive(Drop)]
 pub struct Reporter<W> {
     pub(crate) alloc: Global,
@@ -214,7 +214,7 @@ impl<W: Write> Reporter<W> {
         }
     }
 
-    /// Writes what is told of a command; nothing where there is no memory for it. Keeps the fault,
+    /// Writes the answer to a command; nothing if there is no memory for it. Keeps the fault,
     /// and says whether there is none.
     pub(crate) fn tell(&mut self, text: Option<&[u8]>) -> bool
         requires { self.old.fault ≡ None }

@@ -29,7 +29,7 @@ use std::io::{Read, Write};
 use std::time::Clock;
 
 // The refusal of a part that begins at this byte of the session, where a bad token is counted from
-// the session's beginning. Nothing where it is not within 64 bits.
+// the session's beginning. Nothing if it is not within 64 bits.
 fn placed(start: usize, refusal: Refusal) -> Option<Refusal>
     ensures { IfSome result (λ placed. placed ≡ placed_at start refusal) }
 {
@@ -43,7 +43,7 @@ fn placed(start: usize, refusal: Refusal) -> Option<Refusal>
 }
 
 // Reports that a part that begins at this byte is refused as a whole, as the refusal of one
-// statement. Says whether the session goes on.
+// statement. Says whether the session continues.
 fn refuse_part<K: Reported + Drop, W: Write>(
     start: usize,
     refusal: Refusal,
@@ -61,7 +61,7 @@ fn refuse_part<K: Reported + Drop, W: Write>(
     }
 }
 
-// Runs a part as a script of its own, and reports it. Where it is refused as a whole, that is
+// Runs a part as a script of its own, and reports it. If it is refused as a whole, that is
 // reported as the refusal of one statement.
 fn run_whole<S: Alter, K: PieceResult<S> + Reported + Drop, C: Clock, W: Write>(
     alloc: Global,
@@ -91,7 +91,7 @@ fn run_whole<S: Alter, K: PieceResult<S> + Reported + Drop, C: Clock, W: Write>(
     }
 }
 
-// Does what the line of a command asks for, and tells it. Says whether that met no fault.
+// Does what the line of a command asks for, and writes its answer. Says whether that met no fault.
 fn run_command<S: Alter, C: System, W: Write>(
     alloc: Global,
     engine: &mut Engine<S>,
@@ -163,7 +163,7 @@ fn run_turn<S: Alter, K: PieceResult<S> + Reported + Drop, C: System, W: Write>(
 
 /// Runs the parts of an input, each up to its semicolon, as they are read, and does what the lines
 /// of commands between them ask for. Says whether the run came to the input's end, where no more
-/// than blanks and comments stand behind the last part.
+/// than blanks and comments follow the last part.
 pub(crate) fn run_parts<
     S: Alter,
     K: PieceResult<S> + Reported + Drop,

@@ -156,7 +156,7 @@ impl<D: Disk + Drop> Drop for StoreEnd<D> {
 }
 
 /// Database files, of which one is opened by its name, and closed or given up. At first they hold
-/// what `S` stands for, whatever that is: a program has `Unknown`.
+/// what `S` represents, whatever that is: a program has `Unknown`.
 #[derive(Drop)]
 pub struct FilesOf<'a, S: Start + Copy, D: Disk> {
     /// The system, whose files and whose clock they are.
@@ -268,7 +268,7 @@ impl<S: Start + Copy> FilesOf<'_, S, FileFrom<S>> {
         remove_new(self.rt, name, self.before);
     }
 
-    /// Closes a connection, with all that is committed in its database file. The log beside it,
+    /// Closes a connection, with all that is committed in its database file. The file of its log,
     /// which then holds nothing, is removed while the files are still locked.
     pub(crate) fn close_store(
         &mut self,

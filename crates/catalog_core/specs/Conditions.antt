@@ -33,7 +33,7 @@ abbrev mutual
   tests_among none = []
   tests_among (more part parts) = tests_of part ++ tests_among parts
 
--- ---- a condition's truth, by that of its tests
+-- ---- a condition's truth, from the truth of its tests
 
 abbrev mutual
   pub is_satisfied : {T : Type 0} → (T → Bool) → Condition T → Bool

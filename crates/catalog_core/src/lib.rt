@@ -1,6 +1,6 @@
 //! The tables of a store, the judge of their definitions and the definitions' bytes; and changes
 //! and queries with positions in place of names, with the truth of their conditions. How a
-//! statement becomes one of these is in `statement_resolution`. What to touch in order to add
+//! statement is resolved is in `statement_resolution`. What to touch in order to add
 //!
 //! - a form of change or query: its resolved form in `change.rt`, `stored.rt` or
 //!   `query/resolved.rt`, what gives it in `statement_resolution`, and what it makes of a day in

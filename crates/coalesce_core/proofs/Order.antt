@@ -46,14 +46,14 @@ PrecedesWithGap-gap a b e gap =
     let less : a.period.start <ℤ b.period.start = omega (arith, ints) in
     (answer_cmp-same a b e ∙ int_cmp-Less a.period.start b.period.start less, λ _. gap)
 
--- a row of lesser values
+-- a row of lesser values precedes
 pub PrecedesWithGap-less : (a b : PeriodRow) → values_cmp a.values b.values ≡ Less → PrecedesWithGap a b
 PrecedesWithGap-less a b e = (
   ap (λ o. ordering_then o (int_cmp a.period.start b.period.start)) e,
   λ v. absurd (let tie : values_cmp a.values b.values ≡ Equal = subst (λ vs. values_cmp a.values vs ≡ Equal) v (values_cmp-refl a.values) in cc),
 )
 
--- rows of different values
+-- of two rows in order, with different values, the first precedes
 pub PrecedesWithGap-other : (a b : PeriodRow) → (a.values ≡ b.values → ⊥) → NotAfter a b → PrecedesWithGap a b
 PrecedesWithGap-other a b other h =
     elim (values_cmp a.values b.values) as (λ o. values_cmp a.values b.values ≡ o → PrecedesWithGap a b) [
@@ -82,7 +82,7 @@ PrecedesWithGap-trans a b c p q = (
       ] refl,
 )
 
--- a row behind b, by b's values or from b's first day on, lies behind each row that precedes b
+-- a row behind b, by b's values or from b's first day on, lies after each row that precedes b
 pub PrecedesWithGap-later :
     (a b c : PeriodRow) → PrecedesWithGap a b → b.values ≡ c.values
     → b.period.start ≤ℤ c.period.start → PrecedesWithGap a c
@@ -99,7 +99,7 @@ PrecedesWithGap-later a b c p same later =
           let before : answer_cmp a b ≡ Less = p.0 in cc)
     ] refl
 
--- a row that does not come before b lies behind each row that precedes b
+-- a row that does not come before b lies after each row that precedes b
 pub PrecedesWithGap-upto :
     (a b c : PeriodRow) → PrecedesWithGap a b → NotAfter b c → PrecedesWithGap a c
 PrecedesWithGap-upto a b c p upto =

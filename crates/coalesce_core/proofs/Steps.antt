@@ -19,7 +19,7 @@ use Rattle.coalesce_core.proofs.Order.{PrecedesWithGap-gap, PrecedesWithGap-late
 pub ordered : (rows : List PeriodRow) → IsCoalesced rows → IsInAnswerOrder rows
 ordered rows h = λ i j d lt below. (h i j d lt below).0
 
--- of two rows in a coalesced list, one is before the other or they are one
+-- two rows in a coalesced list are one, or one of them is before the other
 pub placed :
     (rows : List PeriodRow) → IsCoalesced rows → (a b : PeriodRow) → Contains rows a
     → Contains rows b → PrecedesWithGap a b ⊎ (PrecedesWithGap b a ⊎ (a ≡ b))
@@ -81,7 +81,7 @@ Equivalent-nothing (row ∷ rows) p =
 
 -- ---- two rows
 
--- a row of the same values that begins within the first or at its end: the first, extended over it
+-- a row is extended over the next one, of the same values, that begins within it or at its end
 pub widened :
     (row next wide : PeriodRow) → row.values ≡ next.values
     → row.period.start ≤ℤ next.period.start → next.period.start ≤ℤ row.period.end
@@ -133,7 +133,7 @@ same_or_not a b =
       | false ↦ λ e. inr (λ same. let yes : eq_by_cmp values_cmp a.values b.values ≡ true = test.1 same in cc)
     ] refl
 
--- a row that the first does not join lies behind it with a gap
+-- a row that the first does not join lies after it with a gap
 pub apart :
     (row next : PeriodRow) → NotAfter row next
     → ((row.values ≡ next.values) × (next.period.start ≤ℤ row.period.end) → ⊥)
@@ -159,7 +159,7 @@ IsCoalescedOf-two rows row next p gap = record {
   coalesced = AllPairs-front PrecedesWithGap row (next ∷ []) (λ y c. subst (PrecedesWithGap row) (Contains-one next y c) gap) (AllPairs-one PrecedesWithGap next);
 }
 
--- rows that become one row and the next, and what the next and all behind it become
+-- rows that become one row and the next, and what the next and all after it become
 pub IsCoalescedOf-step :
     (rows : List PeriodRow) (row next : PeriodRow) (rest answer : List PeriodRow)
     → IsCoalescedOf (rows ++ next ∷ []) (row ∷ next ∷ []) → IsOrdered (next ∷ rest)

@@ -74,7 +74,7 @@ module _ {S : Type 0} (steps : S → Option PeriodRow → S → Type 0) (first :
         IsCoalescedOf-two (first ∷ m.merged) row next (m.holds (AllPairs-begin NotAfter (first ∷ m.merged) (next ∷ []) up)) (apart row next before alone);
   }
 
-  -- the source has ended
+  -- a call whose source has ended gives its last row
   pub Merges-end :
       (row : PeriodRow) (u v : S) → IsMerging steps first s row u → steps u None v
       → Merges steps first s row None v
@@ -87,7 +87,7 @@ module _ {S : Type 0} (steps : S → Option PeriodRow → S → Type 0) (first :
         record { equivalent = subst (λ rows. Equivalent rows (row ∷ [])) (sym same) one; coalesced = (IsCoalescedOf-one row).coalesced };
   }
 
--- ---- all calls
+-- ---- all calls of a coalescing stream
 
 module _ {S : Type 0} (steps : S → Option PeriodRow → S → Type 0) where
   -- a call with a row in hand
@@ -104,7 +104,7 @@ module _ {S : Type 0} (steps : S → Option PeriodRow → S → Type 0) where
   Yields-append s [] t ys u a b = subst (λ k. Yields steps k ys u) (sym a) b
   Yields-append s (x ∷ xs) t ys u a b = (a.0, a.1, Yields-append a.0 xs t ys u a.2 b)
 
-  -- the source at s gave these rows behind the one in hand, and then, if none is in hand
+  -- the source at s gave these rows after the one in hand, and then, if none is in hand
   -- afterwards, its end; if none was in hand it was not called
   abbrev Calls : Option PeriodRow → S → List PeriodRow → Option PeriodRow → Type 0
   Calls None s taken ahead = (taken ≡ []) × (ahead ≡ None)
@@ -160,7 +160,7 @@ module _ {S : Type 0} (steps : S → Option PeriodRow → S → Type 0) where
   none_ahead P None h = refl
   none_ahead P (Some first) h = absurd h
 
-  -- the run of the source: its first row, and those behind it
+  -- the run of the source: its first row, and those after it
   source_calls :
       (held : Option PeriodRow) (source s : S) (taken : List PeriodRow) (ahead : Option PeriodRow)
       → steps source held s → Calls held s taken ahead

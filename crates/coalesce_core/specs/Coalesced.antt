@@ -10,7 +10,7 @@ use Rattle.temporal_model.specs.Snapshot.{Equivalent}
 abbrev pub NotAfter : PeriodRow → PeriodRow → Type 0
 NotAfter a b = is_lt (answer_cmp b a) ≡ false
 
--- by values, then start: no row comes after a later one
+-- the rows are ordered by values, then start: no row comes after a later one
 abbrev pub IsOrdered : List PeriodRow → Type 0
 IsOrdered = AllPairs NotAfter
 

@@ -39,8 +39,8 @@ module _ {S : Type 0} (steps : S → Option PeriodRow → S → Type 0) where
       (u : S) × Yields steps s (rows ++ option_to_list ahead) u
       × MatchOption ahead (steps u None t) (λ _. u ≡ t)
 
-  -- with this row in hand a call takes others, up to the next one that is in hand, and gives a
-  -- row: it and the next are the coalesced list of all these, if they are in order
+  -- with this row in hand a call takes more rows, up to the next one that is in hand, and gives a
+  -- row: it and the next are the coalesced list of all of them, if they are in order
   pub record Merges (first : PeriodRow) (s : S) (given : PeriodRow) (ahead : Option PeriodRow)
       (t : S) : Type 0 where
     pub merged : List PeriodRow
@@ -58,7 +58,7 @@ module _ {S : Type 0} (steps : S → Option PeriodRow → S → Type 0) where
 
 -- ---- all calls
 
--- of a run of a `Coalesce` and the underlying run of its source: what the one gave, with the row
+-- a run of a `Coalesce` and the underlying run of its source: what the one gave, with the row
 -- that is in hand, if there is one, is the coalesced list of what the other gave. If the one
 -- has ended, so has the other, and no row is in hand.
 pub record IsCoalescedRun {S T : Type 0} {steps : S → Option PeriodRow → S → Type 0}

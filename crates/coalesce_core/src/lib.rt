@@ -1,6 +1,6 @@
 //! Coalescing: the shortest list of period rows with the same snapshots, in order, and the witness
 //! of each row. It compares values only by their order, so a new type of column changes nothing
-//! here: its place in the order is that of its variant in `Value` (period_core).
+//! here: its place in the order is the place of its variant in `Value` (period_core).
 #![tactic(auto)]
 
 ghost use Rattle.std.specs.Prelude.{◌≡◌, map, IfOk};

@@ -29,7 +29,7 @@ impl<I: Iterator<Item = PeriodRow>> Coalesce<I> {
         ensures can { coalesce_can I.can_next I.remaining result }
         ensures ends { IsFinite (coalesce_left I.remaining result) }
 
-        // The rows that it gives are those of the source, coalesced.
+        // The rows that it gives are the source's, coalesced.
         ensures runs { EachRunFrom (coalesce_steps I.next_gives) result (λ p.
             SomeRun I.next_gives source (λ q. IsCoalescedRun p q)) }
     {

@@ -69,7 +69,7 @@ impl NumberRow {
 const SAMPLE: usize = 64;
 
 /// Whether of some pairs of neighbours an eighth are out of order, so that a sort compares each row
-/// with many others. Either answer is right.
+/// with many. Either answer is right.
 fn is_scattered(rows: &[PeriodRow]) -> bool {
     let mut turned: usize = 0;
     for part in rows.chunks(rows.len() / SAMPLE + 2) {
@@ -100,7 +100,7 @@ fn numbers_of(alloc: Global, rows: &[PeriodRow]) -> Result<Option<Vec<NumberRow>
     Ok(Some(numbers))
 }
 
-/// The rows as any others.
+/// The rows of a list of numbered rows.
 fn rows_of(alloc: Global, numbers: &[NumberRow]) -> Result<Vec<PeriodRow>, Memory>
     ensures { IfOk result (λ rows. rows.items ≡ numbers.now) }
 {

@@ -260,7 +260,7 @@ flag_found name names flags rows is new found =
         let there : is_among (flag_of other) (flags ++ flag_of name ∷ []) ≡ is_among (flag_of other) flags = is_among_more (flag_of other) flags (flag_of name) ∙ rw apart (or_false _) in
         rw there (row_kept name other (reading_by (named name)) CommandLine (codes "true" ∷ []) rows (turned other name apart) ∙ found.set other flag)
 
--- a flag that did not stand yet
+-- a flag that is not given yet
 flag_step : (name : Text) (names flags : List Text) (w : Walk) → IsFlagName name → is_among (flag_of name) flags ≡ false → WalkHolds names flags w
     → (turn_fault shape [] w (flag_of name) ≡ []) × WalkHolds names (flags ++ flag_of name ∷ []) (walked file_rules [] w (flag_of name))
 flag_step name names flags w is new stands =
@@ -358,7 +358,7 @@ name_step word (store ∷ files) flags w plain stands =
 
 -- ---- all the words
 
--- each word begins with no hyphen, or is a flag that did not stand yet
+-- each word begins with no hyphen, or is a flag that is not given yet
 abbrev Fits : List Text → List Text → Type 0
 Fits flags [] = ⊤
 Fits flags (word ∷ rest) = ((has_hyphen word ≡ false) × Fits flags rest)
@@ -400,7 +400,7 @@ HasDefault name = (rows : List Row)
 flag_default : (name : Text) → IsFlagName name → HasDefault name
 flag_default name flag = each HasDefault flag_names (λ rows. refl, (λ rows. refl, (λ rows. refl, (λ rows. refl, (λ rows. refl, (λ rows. refl, tt)))))) name flag
 
--- the rows with the defaults of these flags
+-- the rows with the defaults of the flags
 abbrev with_defaults : List Text → List Row → List Row
 with_defaults names rows = fold (λ (rows : List Row) (name : Text). with_default rows (named name)) rows names
 
@@ -442,12 +442,12 @@ flag_kept name other rows flag apart = rw (flag_default name flag rows) (go (has
     go true = refl
     go false = row_kept name other (reading_by (named name)) DefaultValue (codes "false" ∷ []) rows apart
 
--- an argument that is none of these flags keeps its row
+-- an argument that is none of the flags keeps its row
 rows_kept : (names : List Text) (other : Text) (rows : List Row) → AllByRecursion (λ name. IsFlagName name × (bytes_eq name other ≡ false)) names → row_for other (with_defaults names rows) ≡ row_for other rows
 rows_kept [] other rows apart = refl
 rows_kept (name ∷ names) other rows apart = rows_kept names other (with_default rows (named name)) apart.1 ∙ flag_kept name other rows apart.0.0 apart.0.1
 
--- each of these flags, of which none stands twice, is set as it was given
+-- each of the flags, none of which is given twice, is set as it was given
 rows_set : (names : List Text) (name : Text) (rows : List Row) (given : Bool) → AllByRecursion IsFlagName names → IsDistinct bytes_eq names → IsOneOf name names → row_for name rows ≡ flag_row name given
     → first_of name (with_defaults names rows) ≡ Some (said given)
 rows_set [] name rows given flags once none there = absurd none
@@ -487,7 +487,7 @@ name_kept id rows (inl is) = rw is (no_flag_kept (codes "STORE") rows (refl, (re
 name_kept id rows (inr (inl is)) = rw is (no_flag_kept (codes "FILE") rows (refl, (refl, (refl, (refl, (refl, (refl, tt)))))))
 name_kept id rows (inr (inr is)) = rw is (no_flag_kept (codes "wait") rows (refl, (refl, (refl, (refl, (refl, (refl, tt)))))))
 
--- the rows at the end
+-- the rows at the end of the walk, for the names and the given words
 pub record Says (rows : List Row) (names words : List Text) : Type 0 where
   pub store : (name : Text) (files : List Text) → names ≡ name ∷ files → first_of (codes "STORE") rows ≡ Some name
   pub files : unwrap_or (all_of (codes "FILE") rows) [] ≡ drop 1 names
@@ -508,7 +508,7 @@ says names flags rows found = record {
 
 -- ---- no fault at the end
 
--- a default is no fault
+-- the default of an argument is no fault
 abbrev IsFineDefault : Rule → Type 0
 IsFineDefault a = (is_empty a.defaults ≡ true) ⊎ (given_default_fault a a.defaults ≡ [])
 
@@ -548,7 +548,7 @@ starts = record {
   found = record { store = refl; files = refl; wait = refl; set = λ name flag. refl };
 }
 
--- the faults, by those of the walk and where it ends
+-- the faults, from the faults of the walk and the word at which it ends
 abbrev faults_after : Kinds → Walk → Kinds
 faults_after first end =
     or_else first (or_else (entered_fault (built bitemporal_file) end.stopped) (or_else (settle_fault file_rules false end.held)
@@ -614,7 +614,7 @@ fits flags (word ∷ rest) new = go (has_hyphen word) refl new (λ others. fits 
         let others : All IsFlag (flags_in rest) = λ k d below. all (suc k) d (omega arith) in
         inr (is.0, is.1, is.2, new.0, more (flags ++ word ∷ []) (others, IsDistinct-tail _ word (flags_in rest) once, still_new flags word (flags_in rest) new.1 (IsDistinct-head _ word (flags_in rest) once)))
 
--- a flag is among the flags, where it stands
+-- a flag among the words is among the flags
 is_among_flags : (flag : Text) (words : List Text) → has_hyphen flag ≡ true → is_among flag (flags_in words) ≡ is_among flag words
 is_among_flags flag [] hyphen = refl
 is_among_flags flag (word ∷ rest) hyphen = go (has_hyphen word) refl (is_among_flags flag rest hyphen)
@@ -671,7 +671,7 @@ asked_as words asked form asks = named_so (names_in (arguments_of words)) refl
     named_so [] none = let some = rw none at form.store in absurd (omega (arith, some))
     named_so (store ∷ files) names = as_asked (arguments_of words) (matches_of bitemporal_file words) asked store files names (form_read words (store ∷ files) form names).says asks
 
--- no other flag stands if one is alone
+-- no other flag is given if one is alone
 no_other : (flag other : Text) (flags : List Text) → bytes_eq other flag ≡ false → bytes_eq other (codes "--read-only") ≡ false → All (λ word. (word ≡ flag) ⊎ (word ≡ codes "--read-only")) flags
     → is_among other flags ≡ false
 no_other flag other [] apart writes alone = refl
@@ -680,7 +680,7 @@ no_other flag other (word ∷ rest) apart writes alone =
     let differs : bytes_eq other word ≡ false = elim (alone 0 word (omega arith)) [ inl is ↦ rw is apart | inr is ↦ rw is writes ] in
     rw differs (no_other flag other rest apart writes later)
 
--- nor is it set
+-- a flag that is alone sets no other flag
 not_set : (words : List Text) (flag other : Text) (is_set : Bool) → has_hyphen other ≡ true → bytes_eq other flag ≡ false → bytes_eq other (codes "--read-only") ≡ false → ExcludesOthers flag words
     → is_set ≡ is_among other words → is_set ≡ true → ⊥
 not_set words flag other is_set hyphen apart writes alone asks set =

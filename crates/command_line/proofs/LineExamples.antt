@@ -62,7 +62,7 @@ flag_is_false same = let wrong : codes "false" ≡ codes "true" = same_Some _ _ 
 chooses_no_audit : (count : Option ℕ) (source : Option ValueSource) (reading : Reading) → Chooses (Some (codes "run", one_value (codes "audit") (codes "false") count source reading ∷ [])) Run None
 chooses_no_audit count source reading = ((refl, flag_is_false), refl)
 
--- after FILE there is one
+-- `run` and FILE are chosen with one value
 chooses_file : (count : Option ℕ) (source : Option ValueSource) (reading : Reading) → Chooses (Some (codes "run", one_value (codes "FILE") (codes "a.sql") count source reading ∷ [])) Run (Some (codes "a.sql"))
 chooses_file count source reading = ((refl, no_flag), refl)
 
@@ -80,11 +80,11 @@ flag_before_names = record {
   reads_only = λ reads. cc;
 }
 
--- and --tables beside no script
+-- --tables goes with no script
 tables_beside_a_script : IsFileCommand (codes "pay.store" ∷ codes "--tables" ∷ codes "a.sql" ∷ []) → ⊥
 tables_beside_a_script form = let one = (form.lists refl).1 in omega (arith, one)
 
--- nor --verify, and --read-only beside no --now
+-- --verify goes with no script, and --read-only not with --now
 verify_beside_a_script : IsFileCommand (codes "pay.store" ∷ codes "--verify" ∷ codes "a.sql" ∷ []) → ⊥
 verify_beside_a_script form = let one = (form.verifies refl).1 in omega (arith, one)
 

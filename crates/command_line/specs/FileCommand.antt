@@ -86,7 +86,7 @@ abbrev pub NeedsRun : Request → Type 0
 NeedsRun asked = (asked.audits ≡ true) ⊎ (asked.stops ≡ true) ⊎ (asked.timed ≡ true)
     ⊎ (0 < length asked.files.items)
 
--- two arguments exclude each other: --tables and --verify, one of these and what calls for a
+-- two arguments exclude each other: --tables and --verify, one of the two and what calls for a
 -- run, or --read-only and --now
 abbrev pub HasConflict : Request → Type 0
 HasConflict asked = ((asked.lists ≡ true) × (asked.verifies ≡ true))

@@ -87,7 +87,7 @@ abbrev pub IsOfScript : RunFault → Type 0
 IsOfScript (Script refusal) = ⊤
 IsOfScript _ = ⊥
 
--- a fault is reported by its own line, or that of a refused script as out of memory
+-- a fault is reported by its own line, or the line of a refused script as out of memory
 abbrev pub MayBeReportedAs : RunFault → RunFault → Type 0
 MayBeReportedAs fault told = (told ≡ fault) ⊎ (IsOfScript fault × (told ≡ Memory))
 

@@ -6,6 +6,6 @@ use Rattle.std.specs.Io.KnownBytes.{Consumes}
 abbrev pub read_of : ℕ → List ℕ → List ℕ
 read_of most all = take (most + 1) all
 
--- of known bytes at most `most` are taken, from the front
+-- at most `most` of known bytes are taken, from the front
 abbrev pub TakesAtMost : ℕ → Option (List ℕ) → Option (List ℕ) → Type 0
 TakesAtMost most old new = (bytes : List ℕ) × Consumes old new bytes × (length bytes ≤ most)

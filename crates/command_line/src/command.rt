@@ -49,7 +49,7 @@ pub enum CommandFault {
 }
 
 impl CommandFault {
-    /// The fault that clap tells, with its text.
+    /// The fault that clap reports, with its text.
     pub(crate) fn of_clap(alloc: Global, fault: &clap::Error) -> CommandFault
         ensures memory { kind_of fault.now ≡ ErrorKind.OutOfMemory
             → result ≡ CommandFault.Memory }
@@ -195,7 +195,7 @@ pub fn command_line<S: AsStr>(
     alloc: Global,
     words: &[S],
 ) -> Result<(Mode, Option<String>), CommandFault>
-    // Lines of these forms are accepted.
+    // Lines of the program's forms are accepted.
     ensures accepts { (mode : Mode) (file : Option (List ℕ))
         → IsCommandLineFor (map S.text words.now) mode file
         → MatchResult result

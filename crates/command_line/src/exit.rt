@@ -1,4 +1,4 @@
-//! The end of a program that gives no report: in a fault, whose line goes to standard error, or in
+//! The end of a program that gives no report: in a fault, whose line is for standard error, or in
 //! the text of the command line's help, version or mistake.
 
 ghost use Rattle.std.specs.Prelude.{◌≡◌, ◌≤◌, true};

@@ -130,7 +130,7 @@ fn offset_line(
     format!(in alloc; "{program}: {code} {name} {offset}\n")
 }
 
-/// The line of a fault, which takes no memory: in the place of a refusal's line that of out of
+/// The line of a fault, which takes no memory: in place of a refusal's line, the line of out of
 /// memory.
 pub(crate) fn ready_line(program: ProgramName, fault: RunFault) -> &'static [u8]
     ensures { result.now ≡ fault_line program (without_memory fault) }

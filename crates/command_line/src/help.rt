@@ -27,7 +27,7 @@ Examples:
   bitemporal check examples/overview.sql         checks the syntax alone
   bitemporal run < examples/overview.sql         reads standard input";
 
-/// The program beside it, below the examples.
+/// The paragraph about the second program, below the examples.
 pub const SECOND_PROGRAM: &str = "\
 bitemporal_file, the second program, keeps its tables in a file, from one run to the next:
   bitemporal_file pay.store monday.sql           `bitemporal_file --help` says the rest";

@@ -13,7 +13,7 @@ use Rattle.command_tool.specs.Program.{MayEndSilently, audited_status, status_of
 
 -- ---- statuses
 
--- one that was refused counts, wherever it stands
+-- a refused statement counts, whatever its place
 refused_after_done : status_of (Ok (Done Create 0) ∷ Err Syntax ∷ []) ≡ 1
 refused_after_done = refl
 
@@ -30,7 +30,7 @@ refused = record { result = Err Syntax; audit = None }
 agrees_beside_refused : audited_status (refused ∷ answered (Some (Ok (Agrees 1))) ∷ []) ≡ 1
 agrees_beside_refused = refl
 
--- one that differs, finds a bad witness, or is refused precedes a refused statement
+-- an audit that differs, finds a bad witness, or is refused precedes a refused statement
 audit_differs : audited_status (refused ∷ answered (Some (Ok (Differs (pos 0)))) ∷ []) ≡ 3
 audit_differs = refl
 

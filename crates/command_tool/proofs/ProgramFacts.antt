@@ -18,7 +18,7 @@ memory_instead : (mode : Mode) (script : Option (List ℕ)) (read_failed : Bool)
 memory_instead mode script read_failed old new fault (inl silent) = inl (tt, silent.1)
 memory_instead mode script read_failed old new fault (inr failed) = inr (failed.0, inl refl)
 
--- the line that is reported is that of a fault in which the run may end
+-- the line that is reported belongs to a fault in which the run may end
 pub line_of_run : (mode : Mode) (script : Option (List ℕ)) (read_failed : Bool) (old new before after : Option (List ℕ)) (err_failed : Bool) (fault : RunFault)
     → MayEndIn mode script read_failed old new fault → (told : RunFault) × MayBeReportedAs fault told × IsReported err_failed before after (fault_line Bitemporal told)
     → (told : RunFault) × MayEndIn mode script read_failed old new told × IsReported err_failed before after (fault_line Bitemporal told)
@@ -55,7 +55,7 @@ ends_if_failed r failed then (bound, reported, faulty, refused) = (bound, report
     go (fault, inl silent, line) = (fault, inl (silent_if_failed r.mode r.script r.read_failed failed fault then silent.0, silent.1), line)
     go (fault, inr given, line) = (fault, inr given, line)
 
--- a run over a script of these bytes
+-- a run over a script with these bytes
 pub ends_over : (r : ProgramRun) (script : Option (List ℕ)) (failed : Bool) → r.script ≡ script → (r.read_failed ≡ true → failed ≡ true) → EndsWell r
     → EndsWell (record r { script = script; read_failed = failed })
 ends_over r script failed is then ends = subst (λ (s : Option (List ℕ)). EndsWell (record r { script = s; read_failed = failed })) is (ends_if_failed r failed then ends)

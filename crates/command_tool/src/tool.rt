@@ -71,7 +71,7 @@ fn report_in<R: Read, W: Write>(
     }
 }
 
-// Writes the report of what the script tells. Gives the exit status.
+// Writes the report of the script. Gives the exit status.
 fn report<K: ModeResult + Drop, R: Read, W: Write>(
     alloc: Global,
     input: &mut Tracked<R>,

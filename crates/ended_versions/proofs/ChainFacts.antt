@@ -19,7 +19,7 @@ at_other key q apart =
     by_ranked (key < q) (key ≡ q) (q < key) (nat_cmp key q) (ranked key q (nat_cmp key q) refl)
     (λ e less. ap is_eq e) (λ e same. absurd (apart same)) (λ e greater. ap is_eq e)
 
--- after a write at a key the map has there what was written, and else what it had
+-- after a write at a key the map has the written value there, and else what it had
 abbrev pub Writes : BTreeMap ℕ ℕ → BTreeMap ℕ ℕ → ℕ → Option ℕ → Type 0
 Writes last after key place = (q : ℕ) → get nat_cmp after q ≡ cond (is_eq (nat_cmp key q)) place (get nat_cmp last q)
 
@@ -56,7 +56,7 @@ higher all bound hash place none is = record {
   ];
 }
 
--- and one less
+-- the last place of a hash stays if a later place has another hash
 lower : (all : List ℕ) (bound hash : ℕ) (place : Option ℕ) → ((d : ℕ) → get_or all bound d ≡ hash → ⊥) → IsLastPlace all (bound + 1) hash place → IsLastPlace all bound hash place
 lower all bound hash None none is = record {
   within = omega arith;
@@ -130,7 +130,7 @@ module _ (links : List Link) (link : Link) where
           (lower (hashes longer) n q (get nat_cmp last q) (other_hash q apart)
           (subst (λ (bound : ℕ). IsLastPlace (hashes longer) bound q (get nat_cmp last q)) (length_push links link) (are.last_of q)))
 
-  -- the map has the place that goes
+  -- the map has the place that is removed
   pub still_there : (last : BTreeMap ℕ ℕ) → AreChained longer last → get nat_cmp last link.hash ≡ None → ⊥
   still_there last are none =
       let is : IsLastPlace (hashes longer) (length longer) link.hash None = subst (IsLastPlace (hashes longer) (length longer) link.hash) none (are.last_of link.hash) in

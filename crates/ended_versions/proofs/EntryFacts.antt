@@ -12,7 +12,7 @@ use Rattle.ended_versions.specs.Entries.{AreEntries, IsKept, KnowLeast, Precedes
 use Rattle.ended_versions.specs.Packed.{AreEndedBy, PackedVersion}
 use Rattle.ended_versions.specs.declared.blocks.VersionEntry.{VersionEntry}
 
--- ---- bytes after the others
+-- ---- more bytes at the end
 
 -- a part of the first list is the same in both
 pub same_part : (bytes more : List ℕ) (start end : ℕ) → start ≤ end → end ≤ length bytes → slice_range (bytes ++ more) start end ≡ slice_range bytes start end
@@ -160,7 +160,7 @@ packed_first bytes entries n count first =
 
 -- ---- the least of a block
 
--- one block more before the others
+-- one block more at the front
 pub least_on :
     (entries : List VersionEntry) (entry : VersionEntry) (earliest_from now : ℤ) (place next : ℕ) → KnowLeast entries → 0 < place → place ≤ length entries
     → entry ≡ get_or entries (place - 1) entry → next ≡ block_start (place - 1) → now ≤ℤ entry.earliest_from → now ≤ℤ earliest_from

@@ -68,7 +68,7 @@ module _ (positions : List ℕ) (list : List PackedVersion) (hashes : List ℕ) 
       are.each place (packed d) e (get_or versions place d) (let sizes = as_many in omega (arith, sizes)) (hold.held place d below)
       (sym (get_or-map packed versions place d (packed d) below) ∙ ap (λ (l : List PackedVersion). get_or l place (packed d)) hold.same)
 
-  -- none of those between the place and the bound has the hash
+  -- no version between the place and the bound has the hash
   none_there : (bound : ℕ) (place : Option ℕ) (d : VersionRow) → bound ≤ length versions → IsLastPlace hashes bound (hash_of key) place → filter test (take bound versions) ≡ filter test (take (behind place) versions)
   none_there bound place d within is =
       none_between test versions d (behind place) bound is.within within
@@ -183,7 +183,7 @@ held_at list versions place d hold below =
     let same = ap length hold.same in
     hold.held place d (omega (arith, many, same))
 
--- a step down the chain
+-- the search follows the chain by one version
 pub found_step :
     (positions : List ℕ) (list : List PackedVersion) (hashes : List ℕ) (are : AreHashes positions list hashes) (all : length hashes ≡ length list) (window : Window) (key : List Value) (versions : List VersionRow) (hold : Hold list versions)
     (place : ℕ) (next : Option ℕ) (seen : List VersionRow) (found : Option VersionRow) → place < length hashes → ((e : ℕ) → get_or hashes place e ≡ hash_of key)

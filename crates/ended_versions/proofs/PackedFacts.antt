@@ -32,11 +32,11 @@ same_first p q ps qs e = cc
 same_rest : (p q : PackedVersion) (ps qs : List PackedVersion) → p ∷ ps ≡ q ∷ qs → ps ≡ qs
 same_rest p q ps qs e = cc
 
--- the values of a version are those of columns
+-- the values of a version are columns' values
 abbrev pub OfColumns : VersionRow → Type 0
 OfColumns v = All IsColumnValue v.values
 
--- versions that are kept as the same bytes are the same
+-- versions with the same bytes are the same
 same_versions : (vs ws : List VersionRow) → AreOfColumns vs → AreOfColumns ws → map packed vs ≡ map packed ws → vs ≡ ws
 same_versions [] [] h g e = refl
 same_versions [] (w ∷ ws) h g e = absurd cc
@@ -82,7 +82,7 @@ seen_is window bytes entries versions seen hold held e =
     all : seen_through window versions ≡ reverse seen
     all = same_versions (seen_through window versions) (reverse seen) (All-filter (λ (v : VersionRow). window_sees window v.from v.to) OfColumns versions hold.held) (all_backwards OfColumns seen held) both
 
--- one more, found before the others
+-- one more, found before the rest
 pub seen_more :
     (bytes : List ℕ) (all before rest : List VersionEntry) (entry : VersionEntry) (seen : List VersionRow) (version : VersionRow)
     → map (packed_in bytes) all ≡ map (packed_in bytes) before ++ map packed (reverse seen)

@@ -10,13 +10,13 @@ use Rattle.ended_versions.specs.Entries.{AreInOrder, KnowLeast, Precedes, block_
 use Rattle.ended_versions.specs.declared.blocks.VersionEntry.{VersionEntry}
 use Rattle.ended_versions.proofs.BoundFacts.{begins_late, ends_early}
 
--- one more that does not pass
+-- one more element, which does not pass
 one_fails : {X : Type 0} (test : X → Bool) (xs : List X) (d : X) (i : ℕ) → i < length xs → test (get_or xs i d) ≡ false → filter test (take (i + 1) xs) ≡ filter test (take i xs)
 one_fails test xs d i inside fails =
     filter_more test xs i d inside
     ∙ (ap (λ b. filter test (take i xs) ++ cond b (get_or xs i d ∷ []) []) fails ∙ append-nil (filter test (take i xs)))
 
--- so many after a place that do not pass
+-- a number of elements after a place, none of which passes
 some_fail :
     {X : Type 0} (test : X → Bool) (xs : List X) (d : X) (low n : ℕ) → low + n ≤ length xs
     → ((k : ℕ) → low ≤ k → k < low + n → test (get_or xs k d) ≡ false)
@@ -29,7 +29,7 @@ some_fail test xs d low (suc n) within none =
     ∙ (one_fails test xs d (low + n) (omega arith) (none (low + n) (omega arith) (omega arith))
     ∙ some_fail test xs d low n (omega arith) (λ k from below. none k from (omega arith)))
 
--- no place between two others, from none on and before
+-- no place between two, from none on and before
 pub none_between :
     {X : Type 0} (test : X → Bool) (xs : List X) (d : X) (low high : ℕ) → low ≤ high → high ≤ length xs
     → ((k : ℕ) → low ≤ k → k < high → test (get_or xs k d) ≡ false)

@@ -14,7 +14,7 @@ hashes = map (λ (link : Link). link.hash)
 abbrev pub behind : Option ℕ → ℕ
 behind place = option_map_or (λ (p : ℕ). p + 1) place 0
 
--- of the places before a bound, this is the last that has the hash; if it is none, none has
+-- the place is the last before a bound that has the hash; if it is none, none has
 pub record IsLastPlace (all : List ℕ) (bound hash : ℕ) (place : Option ℕ) : Type 0 where
   pub within : behind place ≤ bound
   pub there : (p d : ℕ) → place ≡ Some p → slice_index_or all p d ≡ hash

@@ -1,4 +1,4 @@
--- The entries of the list of ended versions, and what is kept of each.
+-- The entries of the list of ended versions, and the fields of each.
 use Rattle.std.specs.Prelude.{◌≤◌, ◌<◌, ◌≤ℤ◌, ◌+◌, ℕ, Bool, AllPairs, List, length}
 use Rattle.std.specs.Prelude.{slice_index_or, slice_range}
 use Rattle.std.specs.Int.Bits.{bit_and}
@@ -28,7 +28,7 @@ pub record IsKept (bytes : List ℕ) (entry : VersionEntry) : Type 0 where
   pub within : entry.end ≤ length bytes
   pub spelled : IsEncoding (slice_range bytes entry.start entry.end)
 
--- the second ended no earlier, and its values come after those of the first
+-- the second ended no earlier, and its values come after the first one's
 pub record Precedes (first second : VersionEntry) : Type 0 where
   pub ended : first.to ≤ℤ second.to
   pub apart : first.end ≤ second.start

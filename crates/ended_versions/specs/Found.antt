@@ -15,7 +15,7 @@ IsVersionIfSeen window version None = window_sees window version.from version.to
 IsVersionIfSeen window version (Some found) =
     (window_sees window version.from version.to ≡ true) × (found ≡ version)
 
--- the hashes are those of the first of the versions, as many as there are hashes, by the values at
+-- the hashes belong to the first of the versions, as many as there are hashes, by the values at
 -- these positions, in their order
 pub record AreHashes (positions : List ℕ) (list : List PackedVersion) (hashes : List ℕ) : Type 0
   where

@@ -5,7 +5,7 @@ use Rattle.period_core.specs.Encoding.{encoded}
 use Rattle.period_core.specs.declared.value.Value.{Value}
 use Rattle.period_core.specs.declared.version.VersionRow.{VersionRow}
 
--- one more byte, modulo the greatest prime of 32 bits
+-- the hash of bytes with one more, modulo the greatest prime of 32 bits
 abbrev pub hash_byte : ℕ → ℕ → ℕ
 hash_byte hash byte = (hash * 257 + byte) % 4_294_967_291
 

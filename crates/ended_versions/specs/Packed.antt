@@ -8,14 +8,14 @@ use Rattle.period_core.specs.declared.period.Period.{Period}
 use Rattle.period_core.specs.declared.version.VersionRow.{VersionRow}
 use Rattle.period_core.specs.declared.window.Window.{Window}
 
--- a version whose values are kept as bytes
+-- a version whose values are bytes
 pub record PackedVersion : Type 0 where
   pub bytes : List ℕ
   pub period : Period
   pub from : ℤ
   pub to : ℤ
 
--- a version, kept so
+-- a version, with its values as bytes
 abbrev pub packed : VersionRow → PackedVersion
 packed version = record {
   bytes = encoded version.values;
@@ -33,7 +33,7 @@ pub record Hold (list : List PackedVersion) (versions : List VersionRow) : Type 
   pub same : map packed versions ≡ list
   pub held : AreOfColumns versions
 
--- all of them ended by the moment
+-- all versions ended by the moment
 abbrev pub AreEndedBy : ℤ → List PackedVersion → Type 0
 AreEndedBy moment = All (λ (version : PackedVersion). version.to ≤ℤ moment)
 

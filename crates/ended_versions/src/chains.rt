@@ -19,7 +19,7 @@ pub struct Link {
 }
 
 /// The hashes of places, in their order, which contracts see as their list. A place takes some 24
-/// bytes, and each hash that differs from the others some 30.
+/// bytes, and each distinct hash some 30.
 #[derive(Drop)]
 pub struct Chains {
     links: Vec<Link>,

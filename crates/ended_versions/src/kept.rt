@@ -1,4 +1,4 @@
-//! Ended versions, kept with their values as bytes.
+//! Ended versions, with their values as bytes.
 
 ghost use Rattle.std.specs.Prelude.{◌≡◌, ◌++◌, ◌∷◌, ◌<◌, [], IfOk, List, OnErr, OnOk, length};
 ghost use Rattle.std.specs.Prelude.{reverse, slice_index_or, take};
@@ -18,7 +18,7 @@ use period_core::{
 use std::alloc::Global;
 use std::marker::Model;
 
-/// Ended versions, in the order in which they ended. Their values are kept as bytes, so a version
+/// Ended versions, in the order in which they ended. Their values are bytes, so a version
 /// of three numbers takes some 80 bytes. Contracts see the list, with the values so.
 #[derive(Drop)]
 pub struct PackedVersions {

@@ -2,8 +2,8 @@
 //!
 //! A change ends versions at the clock, and the clock never goes back. So a version that ends comes
 //! after all that ended before it, and the list is in the order of its ends by itself. What a
-//! window may see are the versions of a last part of it, those that end late enough; and of these
-//! whole blocks are passed over that begin too late (`blocks`, `walk`). `kept` keeps the versions,
+//! window may see are the versions of a last part of it, those that end late enough; in that part
+//! whole blocks that begin too late are passed over (`blocks`, `walk`). `kept` holds the versions,
 //! with their values as bytes.
 //!
 //! Versions of one key have the same hash (`hashes`), and each leads to the one before it of its

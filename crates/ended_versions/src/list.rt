@@ -17,7 +17,7 @@ use std::alloc::Global;
 use std::marker::Model;
 
 /// The ended versions of a table, in the order in which they ended, and for a first part of them
-/// the hash of each one's key: of these, the versions of one key are chained, the last to end
+/// the hash of each one's key: in that part, the versions of one key are chained, the last to end
 /// first. Contracts see the list of all, with the values as bytes.
 #[derive(Drop)]
 pub struct EndedVersions {
@@ -142,8 +142,8 @@ impl EndedVersions {
     }
 
     /// The versions that a window sees and that may have this key at these positions, the last to
-    /// end first: all of the key, and of others those with an equal hash. If the positions are
-    /// those of the table's key, and all are chained, only these are looked at.
+    /// end first: all of the key, and some of other keys, with an equal hash. If the positions are
+    /// the table's key's, and all are chained, only these are looked at.
     pub fn seen_of_key(
         &self,
         alloc: Global,

@@ -25,7 +25,7 @@ worker = Int (pos 1) ∷ Int (pos 3) ∷ []
 abbrev pub promoted : List Value
 promoted = Int (pos 1) ∷ Int (pos 4) ∷ []
 
--- from day 12 on and before day 15
+-- the portion from day 12 on and before day 15
 abbrev portion : Period
 portion = period_over (pos 12) (pos 15) refl
 

@@ -1,4 +1,4 @@
--- The effect of a change on the versions that are kept, as of later and of earlier moments.
+-- The effect of a change on a table's versions, as of later and of earlier moments.
 use Rattle.std.proofs.Common.{◌≡◌, ◌<ℤ◌, ◌≤ℤ◌, ℕ, ℤ, Bool, true, false, List, cond, length, map, nat_eq, append-nil, refl, sym, subst, ap, ◌∙◌}
 use Rattle.std.specs.List.{All, flat_map}
 use Rattle.std.specs.List.Sorted.{IsPermutation}
@@ -27,7 +27,7 @@ module _ (clock : ℤ) (action : Action) (old new : List VersionRow) (makes : Ap
       subst (λ l. IsPermutation l (flat_map (seen moment day) (versions_after clock action (map plain_version old)))) (sym (values_at-seen new moment day))
       (flat_map-permutation (seen moment day) (map plain_version new) (versions_after clock action (map plain_version old)) makes)
 
-  -- from the clock on they show on each day what the action makes of that day's rows
+  -- from the clock on the versions show on each day what the action makes of that day's rows
   pub makes_later : All (IsRecorded clock) old → (moment day : ℤ) → clock ≤ℤ moment → moment <ℤ forever → IsPermutation (values_at new moment day) (rows_after action day (values_at old moment day))
   makes_later sound moment day late before =
       subst (λ l. IsPermutation (values_at new moment day) (rows_after action day l)) (sym (values_at-seen old moment day))
@@ -35,12 +35,12 @@ module _ (clock : ℤ) (action : Action) (old new : List VersionRow) (makes : Ap
       (new_seen moment day)
       (after_later clock moment day late before action (map plain_version old) (plain_sound clock old sound)))
 
-  -- and before it what they showed
+  -- before the clock the versions show what they showed
   pub makes_earlier : (moment day : ℤ) → moment <ℤ clock → moment <ℤ forever → IsPermutation (values_at new moment day) (values_at old moment day)
   makes_earlier moment day early before =
       subst (IsPermutation (values_at new moment day)) (after_earlier clock moment day early before action (map plain_version old) ∙ sym (values_at-seen old moment day)) (new_seen moment day)
 
-  -- and are as a store may have them
+  -- the versions after a change are as a store may have them
   pub makes_sound : clock <ℤ forever → All (IsRecorded clock) old → All (IsRecorded clock) new
   makes_sound open_clock sound =
       sound_plain clock new
@@ -48,7 +48,7 @@ module _ (clock : ℤ) (action : Action) (old new : List VersionRow) (makes : Ap
       (IsPermutation-sym (map plain_version new) (versions_after clock action (map plain_version old)) makes)
       (after_sound clock open_clock action (map plain_version old) (plain_sound clock old sound)))
 
--- ---- the versions that are kept
+-- ---- the versions after a change
 
 module _ (history : History) (old new : Database) (change : Change) (changed : IsChangedBy change old new) where
   daily_at : IsRecord old → Represents history old → (table : ℕ) (moment day : ℤ) → moment <ℤ forever → (b : Bool) → nat_eq table change.table ≡ b

@@ -41,7 +41,7 @@ state_at-changed_later history at change moment table day late =
     go true e = refl
     go false e = cc
 
--- and not before it
+-- a change leaves the states before its moment
 pub state_at-changed_earlier : (history : History) (at : ℤ) (change : Change) (moment : ℤ) (table : ℕ) (day : ℤ) → moment <ℤ at
     → state_at (with_event history (Changed at change)) moment table day ≡ state_at history moment table day
 state_at-changed_earlier history at change moment table day early =

@@ -129,7 +129,7 @@ versions_after-permutation moment action xs ys p =
 pub versions_of-event : (history : History) (event : Event) (table : ℕ) → versions_of (with_event history event) table ≡ after_event table (versions_of history table) event
 versions_of-event history event table = fold-append (after_event table) (map plain_version (versions_in history.opening table)) history.events (event ∷ [])
 
--- versions that a change makes of those of a history are those of the history after it
+-- versions that a change makes of a history's versions are the versions of the history after it
 pub left_more : (history : History) (at : ℤ) (change : Change) (table : ℕ) (old new : List VersionRow) → AreVersionsOf history table old
     → AppliesActionIf (nat_eq table change.table) at change.action old new → AreVersionsOf (with_event history (Changed at change)) table new
 left_more history at change table old new left makes =

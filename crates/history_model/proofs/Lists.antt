@@ -11,7 +11,7 @@ use Rattle.temporal_model.proofs.Rearranged.{Rearranged, from_permutation}
 abbrev pub one_if : {X : Type 0} → Bool → X → List X
 one_if b x = cond b (x ∷ []) []
 
--- equal lists are in one order
+-- equal lists are permutations of each other
 pub same_order : {X : Type 0} (xs ys : List X) → xs ≡ ys → IsPermutation xs ys
 same_order xs ys e = subst (IsPermutation xs) e (IsPermutation-refl xs)
 

@@ -1,5 +1,5 @@
 -- Worked rows of the model: what an INSERT makes of a day, versions as of a moment, the ordinary query on a day.
--- Those of UPDATE and DELETE are in ChangeExamples.
+-- ChangeExamples has UPDATE and DELETE.
 use Rattle.std.proofs.Common.{◌≡◌, pos, List, [], ◌∷◌, codes, refl, subst, arith}
 use Rattle.std.specs.List.{Contains}
 use Rattle.std.proofs.lemmas.Int.{ints}
@@ -25,7 +25,7 @@ use Rattle.history_model.specs.OrdinaryQuery.{InAnswerOn}
 abbrev worker : List Value
 worker = Int (pos 1) ∷ Int (pos 3) ∷ []
 
--- from day 10 on and before day 20
+-- the inserted row: from day 10 on and before day 20
 abbrev given : InsertedRow
 given = record { values = worker; start = pos 10; end = pos 20 }
 
@@ -74,7 +74,7 @@ answered = (
   refl,
 )
 
--- and nothing on a day on which it does not
+-- on a day on which the row does not hold, the answer has nothing
 unanswered : (row : List Value) → InAnswerOn history (one query) (pos 20) row → ⊥
 unanswered row (values, (first, rest, (moment, before, now, there), none, made), met, its) =
     let at_end : Contains (last_state history 1 (pos 20)) first =

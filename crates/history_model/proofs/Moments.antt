@@ -165,7 +165,7 @@ in_its_place clock moment day late before action v r =
         ∙ spared_shown action (its_row v) day t
         ∙ sym (ap (flat_map (made action day)) is)
 
--- before the clock it shows what it showed
+-- before the clock a version shows what it showed
 left_earlier : (clock moment day : ℤ) → moment <ℤ clock → moment <ℤ forever → (action : Action) (v : PlainVersion) → flat_map (seen moment day) (remains_of clock action v) ≡ seen moment day v
 left_earlier clock moment day early before action v = go (is_touched action v) refl
   where
@@ -232,7 +232,7 @@ after_later clock moment day late before action old sound =
     (IsPermutation-trans (L ++ (G ++ R)) (G ++ (L ++ R)) (W ++ G) one
     (IsPermutation-trans (G ++ (L ++ R)) (G ++ W) (W ++ G) two three)))
 
--- and before it what they showed
+-- before the clock the versions show what they showed
 pub after_earlier : (clock moment day : ℤ) → moment <ℤ clock → moment <ℤ forever → (action : Action) (old : List PlainVersion)
     → flat_map (seen moment day) (versions_after clock action old) ≡ flat_map (seen moment day) old
 after_earlier clock moment day early before action old =

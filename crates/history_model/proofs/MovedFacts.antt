@@ -65,7 +65,7 @@ sees_same (FromTo a b) before from to =
 sees_same (Between a b) before from to =
     ap₂ (λ (s t : Bool). s && t) (le_same a b) (ap₂ (λ (s t : Bool). s && t) (le_same from b) (end_same a to before))
 
--- so it sees the same values, version by version
+-- a window sees the same values after the move, version by version
 seen_same : (window : Window) → BeginsBeforeOpenEnd window → (versions : List VersionRow) (day : ℤ)
     → values_seen (moved_window window) (map moved_version versions) day ≡ values_seen_then window versions day
 seen_same window before versions day =
@@ -92,7 +92,7 @@ versions_moved : (database : Database) (table : ℕ) → versions_in (moved data
 versions_moved database zero = refl
 versions_moved database (suc place) = at_place database.versions place
 
--- and of its versions
+-- windows see the same versions after the move
 pub windows_stay : MovedWindowsStay
 windows_stay database window before table day =
     ap (λ (versions : List VersionRow). values_seen (moved_window window) versions day) (versions_moved database table)

@@ -48,7 +48,7 @@ of_query Sees (both operator left right) (a, b) row h =
 -- ---- over one slice
 
 module _ (query : Query) (named : HasReferences query) (tables : List (List PeriodRow)) where
-  -- on the slice's days the set is that of the whole tables
+  -- on the slice's days the set is the whole tables' set
   same_inside
       : (slice : Slice) (cuts : List (List PeriodRow)) → AreCutTo slice tables cuts
       → (day : ℤ) → InSlice slice day → (row : List Value)

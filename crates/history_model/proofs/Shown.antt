@@ -81,7 +81,7 @@ from_le a b h = grind (arith, ints)
 from_lt : (a b : ℤ) → int_lt a b ≡ true → a <ℤ b
 from_lt a b h = grind (arith, ints)
 
--- a moment at which the window looks and the version stands
+-- a moment at which the window looks and the version is current
 abbrev Meeting : Window → VersionRow → Type 0
 Meeting window v = (m : ℤ) × (m <ℤ forever) × CoversMoment window m × (window_sees (AsOf m) v.from v.to ≡ true)
 
@@ -179,7 +179,7 @@ seen_at_moments clock versions before recorded day state daily window values = (
         subst (λ (z : List Value). Contains (values_seen window versions day) z) s.its
         (in_seen window versions day v s.there (both (window_sees window v.from v.to) (covers_day v.period.start v.period.end day) sees covers))
 
--- a window sees on a day of a table's versions the rows that a reference with it sees
+-- through its window a reference sees, on a day, the rows of the table's versions that the window sees
 pub shown_is_seen : (history : History) (database : Database) → IsRecord database → Represents history database → (window : Window) (table : ℕ) (day : ℤ) (values : List Value)
     → (Contains (values_seen window (versions_in database table) day) values ↔ SeesThrough history window day table values)
 shown_is_seen history database sound kept window table day values =

@@ -60,7 +60,7 @@ itself a = go (int_eq a a) refl
 
 -- ---- rows that begin at a moment
 
--- the values of a row in front of others, if a test passes
+-- the values of a row in front of more values, if a test passes
 one_more : {A B : Type 0} (f : A → B) (b : Bool) (x : A) (xs : List A) → map f (cond b (x ∷ xs) xs) ≡ cond b (f x ∷ map f xs) (map f xs)
 one_more f true x xs = refl
 one_more f false x xs = refl
@@ -84,7 +84,7 @@ sees_later clock moment v r late before = elim r.ended [ inl e ↦ sees_on e | i
         let off : int_eq v.to forever ≡ true → ⊥ = λ t. let same : v.to ≡ forever = same_number v.to forever t in omega (arith, ints) in
         second_false (int_le v.from moment) (int_lt moment v.to) b ∙ sym (not_true (int_eq v.to forever) off)
 
--- the values that rows in front of others hold, if a test passes
+-- the values that rows in front of more rows hold, if a test passes
 shown_current : (day : ℤ) (now : Bool) (v : VersionRow) (more : List VersionRow) →
     values_on (map row_of (cond now (v ∷ more) more)) day
     ≡ cond now (cond (covers_day v.period.start v.period.end day) (v.values ∷ values_on (map row_of more) day) (values_on (map row_of more) day)) (values_on (map row_of more) day)

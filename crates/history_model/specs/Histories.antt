@@ -94,7 +94,7 @@ last_state history = state_at history last_moment
 
 -- ---- histories in order
 
--- from a clock on, AT goes to no earlier moment and to none from FOREVER on, and each change is
+-- from a clock on, AT moves to no earlier moment and to none from FOREVER on, and each change is
 -- made at the clock
 abbrev pub AreInOrder : ℤ → List Event → Type 0
 AreInOrder clock [] = Unit {0}

@@ -23,7 +23,7 @@ its_row v = record { values = v.values; start = v.start; end = v.end }
 abbrev pub is_touched : Action → PlainVersion → Bool
 is_touched action v = window_sees Now v.from v.to && touches action (its_row v)
 
--- a version that is closed at a moment ends then; if it began then it is not kept
+-- a version that is closed at a moment ends then; if it began then it is removed
 abbrev pub closed_at : ℤ → PlainVersion → List PlainVersion
 closed_at moment v = if int_eq v.from moment then [] else record v { to = moment } ∷ []
 
@@ -62,7 +62,7 @@ after_event table versions (Changed moment change) =
     if table == change.table then versions_after moment change.action versions else versions
 after_event table versions Queried = versions
 
--- a table's versions after the history: those of the opening, after each event in turn
+-- a table's versions after the history: the opening's, after each event in turn
 abbrev pub versions_of : History → ℕ → List PlainVersion
 versions_of history table =
     fold (after_event table) (map plain_version (versions_in history.opening table)) history.events

@@ -32,7 +32,7 @@ KeepsStates history event =
     (moment : ℤ) (table : ℕ) (day : ℤ)
     → state_at (with_event history event) moment table day ≡ state_at history moment table day
 
--- whatever is kept, it represents the history that opens with it
+-- whatever a database holds, it represents the history that opens with it
 abbrev pub OpeningsAreRepresented : Type 0
 OpeningsAreRepresented = (database : Database) → Represents (opened database) database
 
@@ -60,7 +60,7 @@ HistoriesLeaveOneList =
     → AreVersionsOf history table versions → AreVersionsOf history table others
     → IsPermutation versions others
 
--- a reference sees through a window, of the versions that are kept, each row of the states
+-- a reference sees through a window, of the versions of a history, each row of the states
 -- that the window looks at, and nothing else
 abbrev pub WindowsSeeStates : Type 0
 WindowsSeeStates =

@@ -1,4 +1,4 @@
--- The opening of a store that once counted its moments in whole seconds: what it kept then, in
+-- The opening of a store that once counted its moments in whole seconds: what it held then, in
 -- moments, and what that store's versions held.
 use Rattle.std.specs.Prelude.{◌≡◌, ◌⊎◌, ◌&&◌, ◌<ℤ◌, ◌≤ℤ◌, ℕ, ℤ, Bool, List, filter, map}
 use Rattle.std.specs.List.{All}
@@ -17,7 +17,7 @@ use Rattle.history_model.specs.Versions.{values_at, values_seen}
 abbrev pub moved_version : VersionRow → VersionRow
 moved_version v = record v { from = second_start v.from; to = moved_end v.to }
 
--- a database that was kept in seconds, in moments: the clock and the system time of each version;
+-- a database in seconds, in moments: the clock and the system time of each version;
 -- the tables are the same
 abbrev pub moved : Database → Database
 moved database = record {
@@ -72,7 +72,7 @@ MovedStatesStay =
     → state_at (opened (moved database)) (second_start second) table day
     ≡ values_at (versions_in database table) second day
 
--- and a window sees of its versions what it saw in seconds, whatever second it ends with
+-- a window sees of a moved history's versions what it saw in seconds, whatever second it ends with
 abbrev pub MovedWindowsStay : Type 0
 MovedWindowsStay =
     (database : Database) (window : Window) → BeginsBeforeOpenEnd window → (table : ℕ) (day : ℤ)

@@ -47,7 +47,7 @@ module _ {X : Type 0} {cmp : X → X → Ordering} (total : IsTotalOrder cmp) (s
       go false is true its = let wrong : is_lt (cmp z y) ≡ true = less_than z x y less its in cc
       go false is false its = let wrong : is_lt (cmp z y) ≡ true = subst (λ e. is_lt (cmp z e) ≡ true) (equal x y its is) less in cc
 
-  -- two elements that both come before the others
+  -- two elements that both come before the rest
   two : (x y : X) (zs : List X) (a b : Bool) → is_lt (cmp y x) ≡ a → is_lt (cmp x y) ≡ b → cond a (y ∷ x ∷ zs) (x ∷ y ∷ zs) ≡ cond b (x ∷ y ∷ zs) (y ∷ x ∷ zs)
   two x y zs true true p q = absurd (asymmetric y x p q)
   two x y zs true false p q = refl

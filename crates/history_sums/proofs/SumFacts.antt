@@ -85,7 +85,7 @@ versions-in_order given sorted same up =
         subst (λ n. is_lt (plain_cmp (get_or (map plain_version (row ∷ next ∷ rows)) n d) (get_or (map plain_version (next ∷ rows)) k d)) ≡ false) {x = suc (k + 1)} {y = suc k + 1} (omega arith)
         (plain_sorted (next ∷ rows) (in_order-tail version_cmp row (next ∷ rows) up) k d (omega arith) (omega arith))
 
--- so they spell what is added
+-- the sorted versions spell the bytes that are added
 pub versions-spelled : (given sorted : List VersionRow) → IsPermutation given sorted → IsSorted version_cmp sorted
     → count_bytes (length sorted) ++ flat_map version_bytes (map plain_version sorted) ≡ versions_bytes (map plain_version given)
 versions-spelled given sorted same up =
@@ -93,7 +93,7 @@ versions-spelled given sorted same up =
     ap (λ n. count_bytes n ++ flat_map version_bytes (map plain_version sorted)) count
     ∙ ap (λ vs. count_bytes (length (map plain_version given)) ++ flat_map version_bytes vs) (sym (versions-in_order given sorted same up))
 
--- one piece more
+-- the bytes of one piece more are added to the sum's
 pub piece-more : {X : Type 0} (spelled : X → List ℕ) (xs : List X) (i : ℕ) (x : X) (bytes head : List ℕ) → i < length xs → x ≡ get_or xs i x
     → (bytes ++ (head ++ flat_map spelled (take i xs))) ++ spelled x ≡ bytes ++ (head ++ flat_map spelled (take (i + 1) xs))
 piece-more spelled xs i x bytes head within is =

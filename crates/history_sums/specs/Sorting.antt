@@ -15,7 +15,7 @@ abbrev pub sorted_by : {X : Type 0} → (X → X → Ordering) → List X → Li
 sorted_by cmp [] = []
 sorted_by cmp (x ∷ xs) = put_in cmp x (sorted_by cmp xs)
 
--- by values, then by the first day, then by the moment from which a version is recorded; and if
+-- versions by values, then by the first day, then by the moment from which one is recorded; and if
 -- these are the same, by the end of the period, then by the moment to which it is recorded
 abbrev pub plain_cmp : PlainVersion → PlainVersion → Ordering
 plain_cmp a b =

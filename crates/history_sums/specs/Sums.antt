@@ -80,6 +80,6 @@ pub record AreAlike (one other : History) : Type 0 where
   pub tables : catalog_of one ≡ catalog_of other
   pub versions : (table : ℕ) → IsPermutation (versions_of one table) (versions_of other table)
 
--- such histories have one sum
+-- two histories that are alike have one sum
 abbrev pub AlikeHaveOneSum : Type 0
 AlikeHaveOneSum = (one other : History) → AreAlike one other → sum_of one ≡ sum_of other

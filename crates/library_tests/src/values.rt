@@ -1,4 +1,4 @@
-//! Values and the bytes that are kept for them, both ways, and bytes that are kept for none.
+//! Values and their bytes, both ways, and bytes that are no value's.
 
 use period_core::{Day, DecodeFault, Text, Value, decode_values, encode_values};
 use std::alloc::Global;

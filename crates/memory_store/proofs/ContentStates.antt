@@ -26,7 +26,7 @@ rows_in : StoredTree → List Row
 rows_in tree = tree.rows
 
 module _ (trees : List StoredTree) (version t : ℕ) where
-  -- another tree at the number
+  -- undoing the replacement of a tree gives the state before
   pub state_set : (x : StoredTree) → state_in (set trees t x) version ≡ before (entry.Replaced t x) (state_in trees version)
   unfolding rows_in
   state_set x = λ i. record { headings = map-set heading trees t x i; rows = map-set rows_in trees t x i; version = version }
@@ -47,7 +47,7 @@ module _ (trees : List StoredTree) (version t : ℕ) where
   past_rows : length trees ≤ t → length (map rows_in trees) ≤ t
   past_rows past = rw length-map past
 
-  -- there is no such number
+  -- undoing the replacement of a tree past the last changes nothing
   pub tree_past : (x : StoredTree) → length trees ≤ t → state_in trees version ≡ before (entry.Replaced t x) (state_in trees version)
   unfolding rows_in
   tree_past x past = sym (λ i. record {
@@ -89,7 +89,7 @@ module _ (trees : List StoredTree) (version t : ℕ) where
     here : shape_in (map heading trees) t ≡ x.shape
     here = ap (λ (h : Heading). h.0) at.0
 
-    -- one tree is listed anew
+    -- a tree whose listing alone differs gives the state before
     pub state_listed : (y : StoredTree) → y.shape ≡ x.shape → y.rows ≡ x.rows → state_in (set trees t y) version ≡ before (entry.Relisted t y.described y.reals) (state_in trees version)
     unfolding rows_in
     state_listed y shape rows =
@@ -129,7 +129,7 @@ grown_back trees version x = λ i. record {
   version = version;
 }
 
--- nothing was changed
+-- a tree that is set to itself leaves the state
 pub state_kept : (trees : List StoredTree) (version t : ℕ) (x : StoredTree) → t < length trees → x ≡ get_or trees t x → (y : StoredTree) → heading y ≡ heading x → y.rows ≡ x.rows
     → state_in (set trees t y) version ≡ state_in trees version
 unfolding rows_in

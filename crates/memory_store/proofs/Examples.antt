@@ -33,7 +33,7 @@ number-back = refl
 listed-back : before (Relisted 0 two 3) now ≡ record now { headings = (Table, 3, two) ∷ no_heading ∷ [] }
 listed-back = refl
 
--- two savepoints: the older goes back to version 5, the newer to the rows without 5
+-- two savepoints: the older restores version 5, the newer the rows without 5
 two-marks : marked (Version 3 ∷ Savepoint ∷ Version 5 ∷ Savepoint ∷ Rows 0 without_five ∷ []) now
     ≡ state_snapshot (record now { rows = (two ∷ []) ∷ [] ∷ []; version = 5 }) ∷ state_snapshot (record now { rows = (two ∷ []) ∷ [] ∷ [] }) ∷ []
 two-marks = refl

@@ -97,7 +97,7 @@ module _ (log : List LogEntry) (at : ℕ) (h : IsNewestSavepoint log at) (s : Co
       ap (λ us. marked us s) split ∙ marked_append (take at log) (Savepoint ∷ post) s
       ∙ ap (λ l. marked (take at log) (before_all post s) ++ state_snapshot (before_all post s) ∷ l) (unmarked post s h.newest)
 
-  -- so there is a savepoint
+  -- a log with a savepoint has a mark
   pub is_marked : marked log s ≡ [] → ⊥
   is_marked none =
       let lengths = ap length (sym marks_split ∙ none) in
@@ -128,7 +128,7 @@ module _ (log : List LogEntry) (at : ℕ) (h : IsNewestSavepoint log at) (s : Co
       ap (λ ms. get_or ms (length ms - 1) snapshot) marks_split
       ∙ last_pushed (marked (take at log) (before_all post s)) (state_snapshot (before_all post s)) snapshot
 
--- so many entries stay, and the rest are undone
+-- if a number of entries stay, the rest are undone
 pub undone_base : (log : List LogEntry) (n : ℕ) (s : ContentState) → before_all (take n log) (before_all (drop n log) s) ≡ before_all log s
 undone_base log n s = sym (before_append (take n log) (drop n log) s) ∙ ap (λ us. before_all us s) (take-append-drop n log)
 
@@ -143,7 +143,7 @@ undone_marks log n s none =
 shorter_with : {X : Type 0} (xs : List X) → xs ≡ shorter xs ++ drop (length xs - 1) xs
 shorter_with xs = sym (take-append-drop (length xs - 1) xs)
 
--- so far the log was undone to here
+-- the log was undone up to the present entry
 pub record IsUndone (first now : List LogEntry) (from to : ContentState) : Type 0 where
   pub done : List LogEntry
   pub is : first ≡ now ++ done

@@ -40,7 +40,7 @@ only_memory fault Full never h = absurd (never h)
 only_memory fault Broken never h = absurd h
 only_memory fault Unstorable never h = absurd h
 
--- and it opens, unless it is out of memory
+-- the store opens, unless it is out of memory
 pub fails_for_memory : (db : Trees) (fault : Type 0) (e : Error) → db catalog_tree ≡ [] → (fault → ⊥) → FailsToOpen db fault e → e ≡ SqliteFailure code.OutOfMemory
 fails_for_memory db fault e empty never fails = elim fails [
   | inl refused ↦ absurd (refused.1 none (empty_is_sound db empty))

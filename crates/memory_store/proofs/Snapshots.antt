@@ -51,7 +51,7 @@ cond_under f false x y = refl
 set_same : {X : Type 0} (f : ℕ → X) (t : ℕ) (x : X) → x ≡ f t → set_at f t x ≡ f
 set_same f t x is = fun_ext (λ k. elim (cases_eq k t) [ inl same ↦ rw (same, eq-eqb t t refl) is | inr other ↦ rw (ne_eqb k t other) ])
 
--- a change at a number that a call can name goes under the list of objects and the version
+-- a change at a number that a call can name is made under the list of objects and the version
 over : {X : Type 0} (f g : ℕ → X) (t : ℕ) (x b c : X) → t < 2 ^ 32 → ((k : ℕ) → g k ≡ cond (eqb k t) x (f k))
     → set_at (set_at g catalog_tree b) version_tree c ≡ set_at (set_at (set_at f catalog_tree b) version_tree c) t x
 over f g t x b c low each = fun_ext (λ k. elim (cases_eq k t) [

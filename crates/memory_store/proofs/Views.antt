@@ -66,7 +66,7 @@ module _ (s : MemoryStore) (at : ℕ) (found moved : Cursor) (row : Row) (within
       ] in
       (ap (option_map in_content) held ∙ ap Some given.0, λ i. record (memory_view s) { cursors = λ c. same c i })
 
--- All was undone.
+-- A log without changes is the view of the last commit.
 pub rolled_back : (old new : MemoryStore) → state_of new.logged.content ≡ base old.logged → new.logged.log.items ≡ [] → memory_view new ≡ record (memory_view old) {
   trees = (memory_view old).committed;
   shape = (memory_view old).committed_shape;

@@ -29,11 +29,11 @@ snapshot_in trees version = snapshot_of (map heading trees) (rows_of trees) vers
 abbrev pub snapshot : Content → Snapshot
 snapshot c = snapshot_in c.trees.items c.version
 
--- one tree is edited
+-- the snapshot with one tree edited
 abbrev pub with_edit : Snapshot → ℕ → (List Row → List Row) → Snapshot
 with_edit s tree edit = record s { trees = with_tree s.trees tree (edit (s.trees tree)) }
 
--- one tree is empty and has this shape, and the list of objects is edited
+-- the snapshot with one tree empty, of this shape, and the list of objects edited
 abbrev pub with_object : Snapshot → ℕ → Shape → ℕ → (List Row → List Row) → Snapshot
 with_object s tree shape reals edit = record {
   trees = with_tree (with_tree s.trees tree []) catalog_tree (edit (s.trees catalog_tree));
@@ -53,7 +53,7 @@ pub record MayList (s : Snapshot) (change : ℕ × Object) : Type 0 where
   pub shaped : s.shape change.0 ≡ change.1.shape
   pub present : change.1.shape ≢ Absent
 
--- there is room for the number, and the tree is there
+-- there is room for the number, and the tree exists
 pub record HasPlaced (old new : Content) (tree : ℕ) (it : StoredTree) : Type 0 where
   pub room : List StoredTree
   pub same : snapshot_in room old.version ≡ snapshot old

@@ -16,7 +16,7 @@ use Rattle.memory_store.specs.declared.log_entry.LogEntry.TheVariants as entry
 use Rattle.memory_store.specs.declared.tree.StoredTree.{StoredTree}
 use Rattle.memory_store.specs.Content.{heading}
 
--- at each number a heading and rows, and the version
+-- the state of a content: at each number a heading and rows, and the version
 pub record ContentState : Type 0 where
   pub headings : List Heading
   pub rows : List (List Row)
@@ -85,7 +85,7 @@ abbrev pub IsValidLog : List LogEntry → ContentState → Type 0
 IsValidLog [] s = ⊤
 IsValidLog (u ∷ more) s = RowsFitShapes (before_all (u ∷ more) s) × IsValidLog more s
 
--- none is a savepoint
+-- no entry is a savepoint
 abbrev pub HaveNoSavepoint : List LogEntry → Type 0
 HaveNoSavepoint = AllByRecursion (λ u. is_savepoint u ≡ false)
 

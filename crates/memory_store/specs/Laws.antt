@@ -22,7 +22,7 @@ rows_are_ordered [] t = refl
 rows_are_ordered (x ∷ trees) zero = ∥∥₁_elim x.ordered (IsShaped-prop x.shape x.rows) (λ h. h)
 rows_are_ordered (x ∷ trees) (suc t) = rows_are_ordered trees t
 
--- so are the list of objects and the version, which are trees too
+-- the list of objects and the version, which are trees too, are ordered
 content_is_ordered : (c : Content) → IsOrdered (snapshot c).shape (snapshot c).trees
 content_is_ordered c t =
     let hs = map heading c.trees.items in

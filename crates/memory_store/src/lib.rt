@@ -4,7 +4,7 @@
 //! `MemoryStore` keeps what the transaction sees, which is changed in place, and an undo log, which
 //! leads back to the newest savepoint and to the last commit. Undoing needs no memory, so that no
 //! rollback fails. An edit that fails leaves its tree as it was, so the store is never broken and
-//! never shut: the one error of its calls, beside a row that may not be stored, is to be out of
+//! never shut: the one error of its calls, but for a row that may not be stored, is to be out of
 //! memory.
 #![tactic(auto)]
 

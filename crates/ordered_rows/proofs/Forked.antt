@@ -1,4 +1,4 @@
--- The rows of a tree whose root is a fork: those of its left side, its row, those of its right.
+-- The rows of a tree whose root is a fork: its left side's rows, its row, its right side's rows.
 use Rattle.std.proofs.Common.{◌≡◌, ◌<◌, ℕ, List, ◌∷◌, ◌++◌, length, sym, ap, ◌∙◌, arith, length-append}
 use Rattle.std.specs.declared.alloc.Global.{Global}
 use Rattle.std.specs.declared.boxed.Box.{Box}

@@ -53,7 +53,7 @@ module _ (rows xs : List Row) (r : Row) (ys : List Row) (is : rows ≡ xs ++ r �
   pub beyond : (at k : ℕ) → at ≡ length xs + suc k → length ys ≤ k → length rows ≤ at
   beyond at k past high = rw is (omega (arith, length-append xs (r ∷ ys), past, high))
 
--- a number on the right that can be told
+-- a number on the right that is known
 pub told : (at left k : ℕ) → at ≡ min (left + 1 + k) most → at < most → (at ≡ left + suc k) × (k < most)
 told at left k is low = (omega (arith, is, low), omega (arith, is, low))
 
@@ -64,7 +64,7 @@ counted count left is low = omega (arith, is, low)
 pub counted_above : (count left at : ℕ) → count ≡ min left most → at < count → at < left
 counted_above count left at is low = omega (arith, is, low)
 
--- the number on the right
+-- a row after the fork's row is found on the right
 pub past : (count left at : ℕ) → count ≡ min left most → count < at → at < most → (at ≡ left + suc (at - count - 1)) × (at - count - 1 < most)
 past count left at is over low = (omega (arith, is, over, low), omega (arith, low))
 

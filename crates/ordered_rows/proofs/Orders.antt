@@ -51,7 +51,7 @@ row_put rows row id same is = is ∙ (λ i. with_new (λ r. value_cmp (rowid r) 
 pub rowid_removed : {made : List Row} (rows : List Row) (id same_id : ℤ) → same_id ≡ id → made ≡ without (side (Rowid same_id)) rows → made ≡ without_rowid id rows
 rowid_removed rows id same_id same is = is ∙ (λ i. without_rowid (same i) rows)
 
--- an entry, and what stands for it in a comparison
+-- an entry, and the entry that replaces it in a comparison
 module _ {made : List Row} (rows : List Row) (o same_o : Order) (entry same_entry : Row) (order_is : same_o ≡ o) (entry_is : same_entry ≡ entry) where
   pub entry_inserted : made ≡ with_new (λ r. entry_cmp same_o r same_entry) false entry rows → made ≡ insert_entry o entry rows
   entry_inserted is = is ∙ (λ i. with_new (λ r. entry_cmp (order_is i) r (entry_is i)) false entry rows) ∙ sym (insert_entry-with_new o entry rows)

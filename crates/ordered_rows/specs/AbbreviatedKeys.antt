@@ -1,4 +1,4 @@
--- Abbreviated keys: the beginning of a row, which is kept with it.
+-- Abbreviated keys: the beginning of a row, which is stored with it.
 use Rattle.std.specs.Prelude.{◌≡◌, ◌+◌, ◌*◌, ◌<◌, ℕ, ℤ, zero, suc, List, [], ◌∷◌}
 use Rattle.std.specs.Prelude.{Option, Some, None, slice_index_or}
 use Rattle.std.specs.declared.cmp.Ordering.{Ordering}
@@ -48,7 +48,7 @@ integer_of Other = None
 integer_of (Integer n) = Some n
 integer_of (IntegerAndBlob byte n number) = Some n
 
--- by the integer, then by the first byte, then by the number
+-- the order of keys: by the integer, then by the first byte, then by the number
 abbrev pub abbreviated_cmp : AbbreviatedKey → AbbreviatedKey → Ordering
 abbreviated_cmp (IntegerAndBlob x m a) (IntegerAndBlob y n b) =
     ordering_then (ordering_then (int_cmp m n) (nat_cmp x y)) (nat_cmp a b)

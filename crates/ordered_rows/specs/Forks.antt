@@ -22,14 +22,14 @@ tree_of (Fork height count f) = fork_tree f.value
 abbrev pub most : ℕ
 most = 2 ^ 32 - 1
 
--- the height and the number beside a fork are right, and the fork is balanced, which makes it low
+-- the height and the number of rows of a fork are right, and it is balanced, which makes it low
 pub record IsBalanced (height count : ℕ) (f : ForkOf) : Type 0 where
   pub height_is : height ≡ (fork_tree f).height % 256
   pub count_is : count ≡ min (length (fork_tree f).rows) most
   pub balanced : DifferByAtMost 1 f.left.height f.right.height
   pub low : IsLow (fork_tree f).height (length (fork_tree f).rows)
 
--- the numbers beside a fork are right, and the fork is balanced
+-- the numbers of rows of a fork are right, and it is balanced
 abbrev pub IsSound : Link → Type 0
 IsSound Leaf = ⊤
 IsSound (Fork height count f) = IsBalanced height count f.value

@@ -1,4 +1,4 @@
--- The order that a seek goes by.
+-- The order that a seek uses.
 use Rattle.std.specs.Prelude.{List, IsTrue}
 use Rattle.std.specs.Ordering.{is_lt, is_gt}
 use Rattle.sqlite_value.specs.declared.keys.Order.{Order}

@@ -9,7 +9,7 @@ use sqlite_value::row::Row;
 use sqlite_value::value::ValueRef;
 use std::cmp::Ordering;
 
-/// The beginning of a row, which is kept with it, so that most comparisons read no row. The key
+/// The beginning of a row, which is stored with it, so that most comparisons read no row. The key
 /// of a version begins with its table's number and then the bytes of its values: one byte is the
 /// kind of the first, and the eight after it are the value if it is an integer.
 #[derive(Clone, Copy)]

@@ -1,4 +1,4 @@
-//! A balanced tree of rows, which contracts see as the list of these rows and the tree's height.
+//! A balanced tree of rows, which contracts see as the list of its rows and the tree's height.
 
 ghost use Rattle.std.specs.Prelude.{◌≡◌, ◌↔◌, ◌+◌, ◌%◌, ◌<◌, [], IsTrue, length, min};
 ghost use Rattle.ordered_rows.specs.Forks.{fork_tree, most};
@@ -18,9 +18,9 @@ pub(crate) struct BalancedTree {
     root: Link,
 }
 
-/// A fork has beside it its height, modulo 256, and the number of its rows, so that a look at
+/// A link to a fork has the fork's height, modulo 256, and the number of its rows: a look at
 /// either reads no fork. Heights that are compared differ by two at most, and modulo 256 they still
-/// tell by how much. A number that is too large for 32 bits stands as the greatest.
+/// differ by as much. A number that is too large for 32 bits is stored as the greatest.
 #[cycle(tree)]
 #[derive(Drop)]
 pub(crate) enum Link {

@@ -25,7 +25,7 @@ impl Undo {
     }
 }
 
-/// A row with this number is taken out, a row goes before it, or a row goes over it.
+/// A row with this number is taken out, a row is added before it, or a row replaces it.
 #[derive(Drop)]
 pub(crate) enum InverseEdit {
     Nothing,

@@ -47,7 +47,7 @@ two_back a b n e =
 
 -- ---- the bytes of a text
 
--- so many bytes from a place on
+-- a number of bytes from a place on
 abbrev pub bytes_from : ℕ → ℕ → List ℕ → List ℕ
 bytes_from zero i t = []
 bytes_from (suc n) i t = get_or t i 0 ∷ bytes_from n (i + 1) t

@@ -27,7 +27,7 @@ then_assoc Less p q = refl
 then_assoc Equal p q = refl
 then_assoc Greater p q = refl
 
--- of two numbers of a high and a low part, the high parts decide, and then the low ones
+-- if two numbers have a high and a low part, the high parts decide, and then the low ones
 parts-cmp : (c p q a b : ℕ) → a < c → b < c →
     nat_cmp (p * c + a) (q * c + b) ≡ ordering_then (nat_cmp p q) (nat_cmp a b)
 parts-cmp c p q a b ha hb = elim (cases_lt p q) [
@@ -62,7 +62,7 @@ byte-split k n =
     let e : 8 * suc k ≡ 8 + 8 * k = omega arith in
     rw (byte_at-pow k n, pow256 (suc k), e, pow256 k) (mod-pow-add n 8 (8 * k))
 
--- the bytes of two numbers, highest first, stand as the numbers do
+-- the bytes of two numbers, highest first, are in the order of the numbers
 bytes-cmp : (k m n : ℕ) (x y : List ℕ) →
     slice_cmp nat_cmp (bytes_high_first k m ++ x) (bytes_high_first k n ++ y)
     ≡ ordering_then (nat_cmp (m % 256 ^ k) (n % 256 ^ k)) (slice_cmp nat_cmp x y)
@@ -80,7 +80,7 @@ bytes-cmp (suc k) m n x y =
     ∙ then_assoc high low behind
     ∙ ap (λ (o : Ordering). ordering_then o behind) (sym parts ∙ ap₂ nat_cmp (sym (byte-split k m)) (sym (byte-split k n)))
 
--- numbers stand as the places above the least at which they are
+-- numbers are in the order of their places above the least
 places-cmp : (least a b : ℤ) (m n : ℕ) →
     a ≡ least +ℤ pos m → b ≡ least +ℤ pos n → nat_cmp m n ≡ int_cmp a b
 places-cmp least a b m n e f = grind (arith, ints, nat_tests)
@@ -101,7 +101,7 @@ places-below least a n low high =
     let e = places-are least a low in
     omega (arith, signed_arith, e)
 
--- the bytes of the places of two numbers stand as the numbers do
+-- the bytes of the places of two numbers are in the order of the numbers
 numbers-cmp : (k : ℕ) (least a b : ℤ) (x y : List ℕ) → least ≤ℤ a → a <ℤ (least +ℤ pos (256 ^ k)) →
     least ≤ℤ b → b <ℤ (least +ℤ pos (256 ^ k)) →
     slice_cmp nat_cmp (bytes_high_first k (places_above least a) ++ x) (bytes_high_first k (places_above least b) ++ y)
@@ -121,7 +121,7 @@ zero-first b = grind (arith, nat_tests)
 zero-last : (b : ℕ) → nat_cmp (suc b) 0 ≡ Greater
 zero-last b = grind (arith, nat_tests)
 
--- the bytes of texts stand as the texts do: what ends before a 00 precedes it
+-- the bytes of texts are in the order of the texts: what ends before a 00 precedes it
 text-cmp : (s t x y : List ℕ) →
     slice_cmp nat_cmp (flat_map escaped_byte s ++ 0 ∷ 0 ∷ x) (flat_map escaped_byte t ++ 0 ∷ 0 ∷ y)
     ≡ ordering_then (slice_cmp nat_cmp s t) (slice_cmp nat_cmp x y)

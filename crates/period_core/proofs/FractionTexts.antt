@@ -56,7 +56,7 @@ filled_at [] n k h = zeros_at n k (omega (arith, h))
 filled_at (digit ∷ more) n zero h = refl
 filled_at (digit ∷ more) n (suc k) h = filled_at more n k (omega (arith, h))
 
--- digits filled to six
+-- the digits of a fraction, filled to six
 abbrev six_bytes : List ℕ → List ℕ
 six_bytes digits =
     get_or digits 0 48 ∷ get_or digits 1 48 ∷ get_or digits 2 48 ∷ get_or digits 3 48 ∷
@@ -149,7 +149,7 @@ zero_shown : (us : ℕ) → ShowsFraction [] us → us ≤ 999_999 → 0 ≡ us
 unfolding six_of
 zero_shown us shows low = some_is 0 us (six_back 48 48 48 48 48 48 us shows.filled low)
 
--- and one that is shown is read
+-- a fraction that is shown is read
 pub fraction_found : (t digits : List ℕ) (us : ℕ) → ShowsFraction digits us → us ≤ 999_999
     → length t ≡ 19 + length (fraction_text digits) → drop 19 t ≡ fraction_text digits → fraction_at t ≡ Some us
 unfolding fraction_at

@@ -1,4 +1,4 @@
--- The text that a moment's number shows is that of its date, its time of day and its fraction.
+-- The text of a moment's number is the text of its date, its time of day and its fraction.
 use Rattle.std.proofs.Common.{◌≡◌, ℕ, ◌/◌, ◌%◌, ◌<◌, ◌++◌, ◌∷◌, [], Bool, true, false, cond, List, length, take, codes, refl, ap, arith, ℤ, pos, ◌+ℤ◌, ◌-ℤ◌, ◌*ℤ◌, ◌≤ℤ◌, unsigned_abs, sym, ◌∙◌}
 use Rattle.std.specs.Prelude.{◌==◌}
 use Rattle.std.proofs.lemmas.Bool.Decides.{nat_tests}
@@ -9,7 +9,7 @@ use Rattle.period_core.specs.Moments.{IsMoment, IsMomentNumber, IsMomentText, Sh
 count_is : (z : ℤ) → pos 0 ≤ℤ z → pos (unsigned_abs z) ≡ z
 count_is z h = omega (arith, signed_arith, h, one_part z)
 
--- so many moments come before a moment as its number is above the first's
+-- the moments before a moment are as many as its number is above the first's
 pub moments-counted : (n : ℤ) → IsMomentNumber n →
     (n ≡ first_moment +ℤ pos (moments_before n)) × (moments_before n < 315_537_897_600_000_000)
 moments-counted n h =
@@ -37,7 +37,7 @@ split_days k = omega (arith, signed_arith)
 fraction_of_day : (k : ℕ) → k % moments_per_day % moments_per_second ≡ k % moments_per_second
 fraction_of_day k = omega arith
 
--- a number is that of its day and its time of day
+-- a number is the number of its day and its time of day
 parts-number : (n : ℤ) (t : ℕ) → IsMomentNumber n → moment_of_day n ≡ t →
     pos moments_per_day *ℤ day_of_moment n +ℤ
     pos (time_number (t / moments_per_hour) (t % moments_per_hour / moments_per_minute)
@@ -45,7 +45,7 @@ parts-number : (n : ℤ) (t : ℕ) → IsMomentNumber n → moment_of_day n ≡ 
 parts-number n t h e =
     rw (split_time t, ← e) (split_days (moments_before n) ∙ sym (moments-counted n h).0)
 
--- so the texts of its day, of its time of day and of its fraction make its text
+-- the texts of its day, of its time of day and of its fraction make its text
 pub text-of-parts : (n : ℤ) → IsMomentNumber n → (date digits : List ℕ) →
     IsDayText (day_of_moment n) date → ShowsFraction digits (moment_of_second n) →
     IsMomentText n

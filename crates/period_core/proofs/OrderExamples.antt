@@ -17,7 +17,7 @@ integer-before-text = refl
 text-before-date : value_cmp (Text (codes "zz")) (Date (neg_ℤ (pos 719_162))) ≡ Less
 text-before-date = refl
 
--- as integers 9 precedes 10
+-- texts are compared by bytes: '9' comes after '10'
 texts-by-bytes : value_cmp (Text (codes "9")) (Text (codes "10")) ≡ Greater
 texts-by-bytes = refl
 
@@ -27,7 +27,7 @@ first-column-decides = refl
 
 -- ---- periods
 
--- from day 3 and before day 9, from day 3 and before day 5, from day 4 and before day 5
+-- three periods: from day 3 and before day 9, from day 3 and before day 5, from day 4 and before day 5
 abbrev three_to_nine : Period
 three_to_nine = period_over (pos 3) (pos 9) refl
 
@@ -41,7 +41,7 @@ four_to_five = period_over (pos 4) (pos 5) refl
 period-its_order : (a b : Period) → (period_impl.ghosts).cmp a b ≡ period_cmp a b
 period-its_order a b = refl
 
--- of equal starts, the end decides
+-- if two periods start on one day, their ends decide
 earlier_end-second : (period_impl.ghosts).cmp three_to_five three_to_nine ≡ Less
 earlier_end-second = refl
 
@@ -56,13 +56,13 @@ row-its_order a b = refl
 abbrev version_over : ℤ → Period → ℤ → ℤ → VersionRow
 version_over n period from to = record { values = Int n ∷ []; period = period; from = from; to = to }
 
--- after the values the start of the period, whatever the system times
+-- after the values the start of the period decides, whatever the system times
 version-start_second :
     version_cmp (version_over (pos 7) three_to_nine (pos 60) (pos 61))
     (version_over (pos 7) four_to_five (pos 50) (pos 51)) ≡ Less
 version-start_second = refl
 
--- then the start of the system time: the version of the earlier one is first, though its period
+-- after it the start of the system time decides: the version of the earlier one is first, though its period
 -- ends later
 version-from_third :
     version_cmp (version_over (pos 7) three_to_nine (pos 50) (pos 60))

@@ -10,7 +10,7 @@ leap_day-read = refl
 
 -- ---- moments
 
--- a text without a fraction is that of the moment at which its second begins
+-- a text without a fraction is the text of the moment at which its second begins
 last_second-read : moment_of_text (codes "9999-12-31 23:59:59") ≡ Some (pos 253_402_300_799_000_000)
 unfolding moment_of_text date_at time_at fraction_at date_parts_of time_parts_of is_date is_time
 last_second-read = refl

@@ -103,7 +103,7 @@ integer-read places n first rest bytes small front behind long p e =
     ap (λ (k : ℕ). bytes_high_first 8 k ++ rest) (places-back least_integer n places e)
     ∙ ap₂ (λ (a b : List ℕ). a ++ b) (same ∙ front) behind ∙ take-append-drop 8 bytes
 
--- and a date
+-- the bytes of a date are read as the date
 pub date-read : (places : ℕ) (n : ℤ) (first rest bytes : List ℕ) →
     ((i : ℕ) → get_or bytes i 0 < 256) →
     first ≡ take 4 bytes → rest ≡ drop 4 bytes → length rest + 4 ≡ length bytes →
@@ -131,14 +131,14 @@ rest-one_way (Date c) (Int n) x y e = absurd (cc)
 rest-one_way (Date c) (Text t) x y e = absurd (cc)
 rest-one_way (Date c) (Date d) x y e = cc
 
--- a value has bytes
+-- the bytes of a value are not empty
 pub value-shortens : (v : Value) (rest bytes : List ℕ) →
     encoded_value v ++ rest ≡ bytes → length rest < length bytes
 value-shortens (Int n) rest bytes e = rw (← e) (omega arith)
 value-shortens (Text t) rest bytes e = omega (arith, simp length-append at (ap length e))
 value-shortens (Date d) rest bytes e = rw (← e) (omega arith)
 
--- one value more was read
+-- one value more was read from the bytes
 pub values-read : (values : List Value) (v : Value) (after rest bytes : List ℕ) →
     encoded values ++ rest ≡ bytes → encoded_value v ++ after ≡ rest →
     encoded (values ++ v ∷ []) ++ after ≡ bytes
@@ -148,7 +148,7 @@ values-read values v after rest bytes h e =
     ∙ ap (λ (front : List ℕ). encoded values ++ (front ++ after)) (append-nil (encoded_value v))
     ∙ ap (λ (behind : List ℕ). encoded values ++ behind) e ∙ h
 
--- after the first value the encoding of the others follows
+-- after the first value the encoding of the rest follows
 pub rest-is_encoding : (v : Value) (rest bytes : List ℕ) →
     encoded_value v ++ rest ≡ bytes → IsEncoding bytes → IsEncoding rest
 rest-is_encoding v rest bytes e is = by is.0 is.1 is.2
@@ -170,7 +170,7 @@ first-of_encoding bytes some is = by is.0 is.1 is.2
     by (w ∷ values) all same =
         record { value = w; rest = encoded values; held = All-head IsColumnValue w values all; spelled = same }
 
--- bytes that no UTF-8 text spells are those of no value
+-- bytes that no UTF-8 text spells are no value's bytes
 pub text-not_utf8 : (text rest bytes : List ℕ) →
     escaped_text text ++ rest ≡ bytes → (IsUtf8 text → ⊥) → HasFirst (2 ∷ bytes) → ⊥
 text-not_utf8 text rest bytes e bad first = by first.value first.held first.spelled

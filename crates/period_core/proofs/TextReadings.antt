@@ -102,7 +102,7 @@ day_read_is_text t n e = elim (if_some (length t == 10) (date_at t >>= number_of
       ]
 ]
 
--- and the day whose text it is is read of it
+-- the day whose text it is is read of a text
 pub day_text_is_read : (t : List ℕ) (n : ℤ) → IsDayText n t → day_of_text t ≡ Some n
 unfolding day_of_text
 day_text_is_read t n h =

@@ -1,4 +1,4 @@
--- Worked windows, by computation: the versions from moment 10 on and before moment 20, and others.
+-- Worked windows, by computation: the versions from moment 10 on and before moment 20, and near ones.
 use Rattle.std.proofs.Common.{◌≡◌, refl, true, false, pos}
 use Rattle.period_core.specs.Moments.{forever}
 use Rattle.period_core.specs.Windows.{window_sees}

@@ -40,7 +40,7 @@ encoded_value (Int n) = 1 ∷ bytes_high_first 8 (places_above least_integer n)
 encoded_value (Text text) = 2 ∷ escaped_text text
 encoded_value (Date day) = 3 ∷ bytes_high_first 4 (places_above first_day day)
 
--- one after the other
+-- the bytes of values, one after the other
 abbrev pub encoded : List Value → List ℕ
 encoded values = flat_map encoded_value values
 

@@ -9,7 +9,7 @@ abbrev pub row_values : List PeriodRow → ℕ → Option (List Value)
 row_values rows place = option_map (λ (row : PeriodRow). row.values) (slice_get rows place)
 
 -- the rows from `at` on and before `end` have the values of the row at `at`, and the row at `end`,
--- if there is one, has others
+-- if there is one, has different values
 pub record IsRunEnd (rows : List PeriodRow) (at end : ℕ) : Type 0 where
   pub behind : at < end
   pub within : end ≤ length rows

@@ -11,7 +11,7 @@ use jiff_core::civil;
 use std::marker::Model;
 
 /// A day from 0001-01-01 to 9999-12-31, by its number: 1970-01-01 is 0, and each day has the number
-/// after that of the day before.
+/// after the day before's.
 #[derive(Clone, Copy, PartialEq, Eq, PartialOrd, Ord, Debug)]
 pub struct Day {
     number: i32,

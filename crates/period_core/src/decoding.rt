@@ -18,7 +18,7 @@ use std::alloc::{AllocError, AllocFailed, Global};
 pub enum DecodeFault {
     /// An allocation was refused.
     Memory,
-    /// The bytes are those of no values: a value is cut, its tag is none of the three, its text has
+    /// The bytes are no values' bytes: a value is cut, its tag is none of the three, its text has
     /// a `00` before another byte than `00` and `ff` or is not UTF-8, or its date is after
     /// 9999-12-31.
     Malformed,

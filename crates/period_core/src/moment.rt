@@ -14,7 +14,7 @@ use crate::text_reading::moment_of_bytes;
 use std::marker::Model;
 
 /// A moment: a whole microsecond from 0001-01-01 00:00:00 to 9999-12-31 23:59:59.999999, by its
-/// number. 1970-01-01 00:00:00 is 0, and each moment has the number after that of the moment
+/// number. 1970-01-01 00:00:00 is 0, and each moment has the number after the one of the moment
 /// before.
 #[derive(Clone, Copy, PartialEq, Eq, PartialOrd, Ord, Debug)]
 pub struct Moment {

@@ -15,11 +15,11 @@ use Rattle.period_keys.specs.declared.block.Block.{Block}
 use Rattle.period_keys.specs.declared.placed_period.PlacedPeriod.{PlacedPeriod}
 use Rattle.period_keys.proofs.Members.{Any-append, Any-permutation, some_member}
 
--- some block has it
+-- some block has the period
 abbrev pub Has : PlacedPeriod → List Block → Type 0
 Has item blocks = Any (λ (block : Block). Contains block.items.items item) blocks
 
--- one block changes, and of its items only some may go
+-- if one block changes, only some of its items may go
 pub changed_block : (blocks : List Block) (i : ℕ) (old new : Block) (Gone : PlacedPeriod → Type 0) → i < length blocks → old ≡ get_or blocks i old
     → ((x : PlacedPeriod) → Contains old.items.items x → Gone x ⊎ Contains new.items.items x) → (x : PlacedPeriod) → Has x blocks → Gone x ⊎ Has x (set blocks i new)
 changed_block blocks i old new Gone inside is kept x (k, b, below, at, there) =
@@ -43,7 +43,7 @@ changed_block blocks i old new Gone inside is kept x (k, b, below, at, there) =
 pub in_changed : (blocks : List Block) (i : ℕ) (new : Block) (x : PlacedPeriod) → i < length blocks → Contains new.items.items x → Has x (set blocks i new)
 in_changed blocks i new x inside there = let size : length (set blocks i new) ≡ length blocks = length-set blocks i new in (i, new, omega arith, get_or-set_same blocks i new new inside, there)
 
--- one block more
+-- one block more leaves the periods that blocks have
 pub more_blocks : (blocks : List Block) (at : ℕ) (block : Block) (x : PlacedPeriod) → Has x blocks → Has x (insert blocks at block)
 more_blocks blocks at block x there =
     let P : Block → Type 0 = λ b. Contains b.items.items x in
@@ -59,18 +59,18 @@ pub wider : (start end low high : ℤ) (items : List PlacedPeriod) → low ≤�
 wider start end low high items before after within =
     All-weaker (LiesBetween start end) (LiesBetween low high) (λ item (from, to). (omega (arith, ints), omega (arith, ints))) items within
 
--- with one more, between days around all
+-- items between two days lie between wider days, with one item more
 pub wider_with :
     (start end low high : ℤ) (items all : List PlacedPeriod) (item : PlacedPeriod) → low ≤ℤ start → end ≤ℤ high → LiesBetween low high item → All (LiesBetween start end) items
     → all ≡ items ++ item ∷ [] → All (LiesBetween low high) all
 wider_with start end low high items all item before after lies within is =
     subst (All (LiesBetween low high)) (sym is) (All-append (LiesBetween low high) items (item ∷ []) (wider start end low high items before after within) (All-cons (LiesBetween low high) item [] lies (λ k d below. absurd (omega arith))))
 
--- of the elements of a list with one gone, the others exist
+-- an element of a list is the one that is removed, or one of the rest
 pub others_left : {X : Type 0} (xs left : List X) (gone x : X) → IsPermutation xs (gone ∷ left) → Contains xs x → (x ≡ gone) ⊎ Contains left x
 others_left xs left gone x moved there = elim (Contains-cons_cases gone left x (Contains-permutation xs (gone ∷ left) x moved there)) [ inl same ↦ inl (sym same) | inr rest ↦ inr rest ]
 
--- one is taken out of its place
+-- the items of a block without the one at a place
 pub all_but_one : (items left : List PlacedPeriod) (place : ℕ) (gone : PlacedPeriod) → place < length items → gone ≡ get_or items place gone → left ≡ swap_remove items place gone
     → IsPermutation items (gone ∷ left)
 all_but_one items left place gone inside there is = subst (λ (xs : List PlacedPeriod). IsPermutation items (gone ∷ xs)) (sym is) (IsPermutation-swap_remove items place gone inside there)
@@ -80,7 +80,7 @@ pub left_by_one : (items left : List PlacedPeriod) (place : ℕ) (gone item : Pl
 left_by_one items left place gone item (inside, at) there is other had =
     elim (others_left items left gone other (all_but_one items left place gone inside there is) had) [ inl same ↦ inl (same ∙ there ∙ get_or_default items place gone item inside ∙ at) | inr rest ↦ inr rest ]
 
--- with one put for another, too
+-- the elements of a list stay if one is replaced, but for that one
 pub others_kept : {X : Type 0} (xs : List X) (i : ℕ) (new old x : X) → i < length xs → get_or xs i old ≡ old → Contains xs x → (x ≡ old) ⊎ Contains (set xs i new) x
 others_kept xs i new old x inside is (k, below, at) =
     let size : length (set xs i new) ≡ length xs = length-set xs i new in
@@ -101,7 +101,7 @@ pub in_parts : {X : Type 0} (xs sorted : List X) (n : ℕ) (x : X) → IsPermuta
 in_parts {X} xs sorted n x moved there =
     elim (Contains-append_cases (take n sorted) (drop n sorted) x (subst (λ (ys : List X). Contains ys x) (sym (take-append-drop n sorted)) (Contains-permutation xs sorted x moved there))) [ inl first ↦ inr first | inr second ↦ inl second ]
 
--- one element more is taken
+-- one element more of a list is taken
 pub taken : {X : Type 0} (xs : List X) (i : ℕ) (here x : X) → i < length xs → here ≡ get_or xs i here → Contains (take (i + 1) xs) x → Contains (take i xs) x ⊎ (here ≡ x)
 taken {X} xs i here x below is there =
     let more : take (i + 1) xs ≡ take i xs ++ here ∷ [] = take_more xs i here below ∙ ap (λ (y : X). take i xs ++ y ∷ []) (sym is) in

@@ -61,7 +61,7 @@ pub periods_of_both : (keys : List ℕ) (rows others : List PeriodRow) (key : Li
 periods_of_both keys rows others key =
     ap (map period_of) (filter-append (has_key keys key) rows others) ∙ map-append period_of (filter (has_key keys key) rows) (filter (has_key keys key) others)
 
--- a key's periods without those of the rows that go, and with those of the rows that come, are those of the rows afterwards
+-- a key's periods, without the periods of the removed rows and with those of the added rows, are the periods of the rows afterwards
 pub there_afterwards :
     (keys : List ℕ) (parents gone new : KeyedPeriods) (before ended stay added : List PeriodRow) (key : List Value) (there : List Period)
     → IsIndexOf keys before parents → IsPermutation before (ended ++ stay) → IsIndexOf keys ended gone → IsIndexOf keys added new
@@ -79,7 +79,7 @@ there_afterwards keys parents gone new before ended stay added key there is move
     (IsPermutation-trans there (left ++ periods_at new key) (left ++ periods_of_key keys added key) (made left taken)
     (IsPermutation-append_right left (periods_at new key) (periods_of_key keys added key) (new_is key)))
 
--- whether some of the periods holds a day can be told
+-- a day is in some of the periods, or in none
 held_or_not : (periods : List Period) (day : ℤ) → IsHeld periods day ⊎ (IsHeld periods day → ⊥)
 held_or_not [] day = inr (Any-nil (λ (p : Period). IsWithin p day))
 held_or_not (p ∷ ps) day =
@@ -142,7 +142,7 @@ uncovered_of_parents own keys below before ended stay added touched children par
           ],
     )
 
--- the gaps of children under the periods that are there of a key are those under the rows after the change
+-- the gaps of children under a key's periods before the change are the gaps under the rows after it
 pub lost_least :
     (there after cs : List Period) (children : KeyedPeriods) (key : List Value) (found : Option ℤ) → cs ≡ periods_at children key → IsPermutation there after
     → IsLeastOf (λ day. Any (λ child. IsGap there child day) cs) found → IsLeastOf (λ day. Any (λ child. IsGap after child day) (periods_at children key)) found

@@ -54,7 +54,7 @@ workers =
 abbrev before : State
 before number day = cond (number == 1) ((Int (pos 5) ∷ []) ∷ []) ((Int (pos 1) ∷ Int (pos 5) ∷ []) ∷ [])
 
--- all departments go
+-- the change that ends all departments
 abbrev closing : Change
 closing = record { table = 1; action = Delete None None }
 

@@ -23,7 +23,7 @@ use Rattle.period_keys.specs.Equations.{both_equal}
 use Rattle.period_keys.specs.FixedKeys.{AreFew, AreSaidEqual, SaysEqual, SomeSaysEqual, has_side, has_sides}
 use Rattle.period_keys.proofs.Fixed.{both_true, each_met}
 
--- a comparison of two positions
+-- an equality of two positions says that they are equal
 pub test_equates : (condition : code.Tree CompareValues) (c : CompareValues) (left right : ℕ) → condition ≡ code.Test c → c.comparison ≡ Equal → c.left ≡ Position left → c.right ≡ Position right →
     (row : List Value) → meets condition row ≡ true → slice_get row left ≡ slice_get row right
 test_equates condition c left right is equal at_left at_right row met =
@@ -143,7 +143,7 @@ count_stays : {X : Type 0} (p q : X → Bool) → ((x : X) → p x ≡ true → 
 count_stays p q further [] = omega arith
 count_stays p q further (x ∷ xs) = omega (arith, count_stays p q further xs, count_one p q further x, count_cons p x xs, count_cons q x xs)
 
--- one that did not count counts now
+-- if one element more passes a test, the count of passing ones grows
 count_grows : {X : Type 0} (p q : X → Bool) → ((x : X) → p x ≡ true → q x ≡ true) → (xs : List X) (k : ℕ) (x : X) → k < length xs → x ≡ get_or xs k x → p x ≡ false → q x ≡ true → count_by p xs + 1 ≤ count_by q xs
 count_grows p q further [] k x below at lacks has = absurd (omega (arith, below))
 count_grows p q further (y ∷ ys) zero x below at lacks has =
@@ -196,7 +196,7 @@ added_same conditions known i condition old so_far inside at nothing before = re
   few = before.few;
 }
 
--- one that says it of another place
+-- one condition more says that the place equals another
 pub added_more : (conditions : List (code.Tree CompareValues)) (known i : ℕ) (condition : code.Tree CompareValues) (other : ℕ) (old so_far new : List ℕ) → i < length conditions → condition ≡ get_or conditions i condition
     → SaysEqual condition known other → (Contains so_far other × (new ≡ so_far)) ⊎ ((Contains so_far other → ⊥) × (new ≡ so_far ++ other ∷ [])) → Added conditions known i old so_far → Added conditions known (i + 1) old new
 added_more conditions known i condition other old so_far new inside at says once before =
@@ -280,7 +280,7 @@ reached_more conditions place i known places new before below at kept found only
       few = few there before.few;
     }
 
--- all that the conditions say
+-- a walk that takes no more places has reached all that the conditions say are equal
 pub reached_all : (conditions : List (code.Tree CompareValues)) (place n : ℕ) (places : List ℕ) → Reached conditions place n places → length places ≤ n → (other : ℕ) → Contains places other ↔ AreSaidEqual conditions place other
 reached_all conditions place n places reached whole other = (reached.said other, there other)
   where
@@ -290,6 +290,6 @@ reached_all conditions place n places reached whole other = (reached.said other,
         let one = there known before in
         reached.closed one.0 known p (omega (arith, whole, one.1)) one.2 says
 
--- there are no more places than conditions, beside the first
+-- the number of places is at most one more than the number of conditions
 pub few_places : (conditions : List (code.Tree CompareValues)) (places : List ℕ) → AreFew conditions places → length places ≤ length conditions + 1
 few_places conditions places few = omega (arith, few, count_by-le-length (sides_of places) conditions)

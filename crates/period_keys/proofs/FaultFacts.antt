@@ -1,4 +1,4 @@
--- The least faulty days of a plan, by the rows that stand after it.
+-- The least faulty days of a plan, by the rows after it.
 use Rattle.std.proofs.Common.{◌≡◌, ◌==◌, ◌++◌, ℕ, ℤ, Bool, true, false, List, Some, ap, arith, cond, map, not, refl, subst, sym}
 use Rattle.std.specs.Prelude.{IsPermutation, Option, filter}
 use Rattle.std.proofs.lemmas.List.{map-append}
@@ -88,7 +88,7 @@ holds_after before change rows after holds effect day =
     itself : (n : ℕ) → (n == n) ≡ true
     itself n = grind arith
 
--- another table's rows hold it too
+-- rows that hold another table hold it after the change
 pub holds_still : (before : State) (change : Change) (table : ℕ) (rows : List PeriodRow) → (table ≡ change.table → ⊥) → HoldsTable rows before table → HoldsTable rows (state_after change before) table
 holds_still before change table rows other holds day =
     subst (IsPermutation (values_on rows day)) (sym (ap (λ b. cond b (rows_after change.action day (before table day)) (before table day)) (apart table change.table other))) (holds day)

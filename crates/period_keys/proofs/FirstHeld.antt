@@ -5,7 +5,7 @@ use Rattle.std.proofs.lemmas.Option.{get_or_from_slice_get, slice_get_within}
 use Rattle.period_keys.specs.FixedKeys.{HoldsOfFirst}
 
 module _ {X : Type 0} (Has : X → Type 0) (xs : List X) (count : ℕ) where
-  -- the next one lacks it
+  -- the property holds of the first elements, and not of the next
   pub stopped : (d : X) → count < length xs → All Has (take count xs) → (Has (get_or xs count d) → ⊥) → HoldsOfFirst Has xs count
   stopped d below first lacks = record {
     within = omega (arith, below);
@@ -13,7 +13,7 @@ module _ {X : Type 0} (Has : X → Type 0) (xs : List X) (count : ℕ) where
     next = λ x at has. lacks (subst Has (sym (get_or_from_slice_get xs count x d at)) has);
   }
 
-  -- there is no next one
+  -- the property holds of all elements
   pub all_hold : length xs ≤ count → count ≤ length xs → All Has (take count xs) → HoldsOfFirst Has xs count
   all_hold last within first = record {
     within = within;

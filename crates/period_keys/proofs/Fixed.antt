@@ -66,7 +66,7 @@ module _ {T : Type 0} (Says : T → ℕ → Value → Type 0) (condition : code.
       among (p ∷ ps) zero here it = inl it
       among (p ∷ ps) (suc n) here it = inr (among ps n (omega (arith, here)) it)
 
-  -- and no more
+  -- no part of the AND says so of the value
   pub in_none : condition ≡ code.And first others → (part : code.Tree T) → part ≡ first.value → (States Says (plain_condition part) position value → ⊥)
       → (parts : List (code.Tree T)) → parts ≡ others.items → ((k : ℕ) (d : code.Tree T) → k < length parts → States Says (plain_condition (get_or parts k d)) position value → ⊥)
       → States Says (plain_condition condition) position value → ⊥
@@ -111,7 +111,7 @@ get_after (x ∷ xs) ys p =
     let next : length (x ∷ xs) + p ≡ suc (length xs + p) = omega arith in
     ap (slice_get (x ∷ (xs ++ ys))) next ∙ get_after xs ys p
 
--- conditions that all hold
+-- each of several conditions holds if all hold
 pub each_met : (conditions : List (code.Tree CompareValues)) (values : List Value) → meets_all conditions values ≡ true → (k : ℕ) (condition : code.Tree CompareValues) → k < length conditions → condition ≡ get_or conditions k condition → meets condition values ≡ true
 each_met [] values met k condition below at = absurd (omega (arith, below))
 each_met (c ∷ conditions) values met zero condition below at =

@@ -10,7 +10,7 @@ use Rattle.period_keys.specs.Gaps.{IsGap, IsHeld}
 abbrev pub IsHeldTo : List Period → Period → ℤ → Type 0
 IsHeldTo periods child day = (d : ℤ) → child.start ≤ℤ d → d <ℤ day → IsHeld periods d
 
--- so a gap of the child is no earlier
+-- a gap of a child that is held up to a day is no earlier than the day
 gap_from : (periods : List Period) (child : Period) (day other : ℤ) → IsHeldTo periods child day → IsGap periods child other → day ≤ℤ other
 gap_from periods child day other held (within, alone) = by_lt_z {P = day ≤ℤ other} other day (λ less. absurd (alone (held other within.0 less))) (λ ge. ge)
 
@@ -40,7 +40,7 @@ earlier_gap Old periods child found day until least held from before alone insid
   ];
 }
 
--- no earlier one
+-- one more child has no gap before the least day of the old ones
 pub no_earlier_gap : (Old : ℤ → Type 0) (periods : List Period) (child : Period) (found : Option ℤ) (day until : ℤ) → IsLeastOf Old found → IsHeldTo periods child day → until ≤ℤ day
     → (until ≡ child.end) ⊎ (found ≡ Some until) → IsLeastOf (λ other. Old other ⊎ IsGap periods child other) found
 no_earlier_gap Old periods child None day until least held past one = λ other h. elim h [
@@ -68,7 +68,7 @@ first_of periods child day found held from alone there none =
     by_lt_z {P = IsLeastOf (IsGap periods child) found} day child.end (λ less. subst (IsLeastOf (IsGap periods child)) (sym (there less)) (gap_at periods child day held from less (alone less)))
     (λ past. subst (IsLeastOf (IsGap periods child)) (sym (none past)) (no_gap periods child day held past))
 
--- with that of one child more
+-- the least day of the old ones and of the gaps of one more child
 pub first_of_more : (Old : ℤ → Type 0) (periods : List Period) (child : Period) (found new : Option ℤ) (day until : ℤ) → IsLeastOf Old found → IsHeldTo periods child day → child.start ≤ℤ day
     → (day <ℤ until → IsHeld periods day → ⊥) → until ≤ℤ child.end → IfSome found (λ other. until ≤ℤ other) → (until ≡ child.end) ⊎ (found ≡ Some until)
     → (day <ℤ until → new ≡ Some day) → (until ≤ℤ day → new ≡ found) → IsLeastOf (λ other. Old other ⊎ IsGap periods child other) new
@@ -83,7 +83,7 @@ pub held_past : (periods : List Period) (held : Option Period) (start from : ℤ
 held_past periods None start from known inside d low high = absurd (inside d low high)
 held_past periods (Some period) start from known inside d low high = known d (inside d low high)
 
--- and of one that is known since
+-- a period that has been held since a day is known
 pub known_since : (periods : List Period) (held : Option Period) (start day : ℤ) → IfSome held (λ (period : Period). period.start ≡ start) → IfSome held (λ (period : Period). period.end ≡ day)
     → ((d : ℤ) → start ≤ℤ d → d <ℤ day → IsHeld periods d) → IfSome held (λ (period : Period). (d : ℤ) → IsWithin period d → IsHeld periods d)
 known_since periods None start day start_is end_is to = tt

@@ -1,4 +1,4 @@
--- The rows of groups: after a write at one key, with a group more, with one less, and those of a key.
+-- The rows of groups: after a write at one key, with a group more or less, and the rows of a key.
 use Rattle.std.proofs.Common.{◌≡◌, ◌++◌, ◌∷◌, [], ◌∙◌, ℕ, Bool, true, false, cond, Some, None, List, inl, inr, refl, sym, ap, subst, append_assoc, append-nil}
 use Rattle.std.specs.Prelude.{◌⊎◌, Option, Contains, IsPermutation, filter, unwrap_or}
 use Rattle.std.specs.Bool.{OnFalse, OnTrue}
@@ -32,7 +32,7 @@ rows_in group = group.rows.items
 abbrev pub Entries : Type 0
 Entries = List (List Value × KeyRows)
 
--- the rows, without the keys
+-- the rows of groups, by their lists without the keys
 pub lists_of_groups : (es : Entries) → rows_of_lists (values_of es) ≡ rows_of_groups es
 lists_of_groups [] = refl
 lists_of_groups (e ∷ es) = ap (λ (xs : List VersionRow). rows_in e.1 ++ xs) (lists_of_groups es)
@@ -43,7 +43,7 @@ to_front {X} a e r =
     subst (λ (xs : List X). IsPermutation xs (e ++ (a ++ r))) (append_assoc a e r)
     (subst (IsPermutation ((a ++ e) ++ r)) (append_assoc e a r) (IsPermutation-append_left r (a ++ e) (e ++ a) (IsPermutation-append_comm a e)))
 
--- one list of a row of lists is changed
+-- if one list among several changes, all together change by the same elements
 pub changed_after : {X : Type 0} (a b e s r : List X) → IsPermutation (a ++ s) (b ++ r) → IsPermutation (a ++ (e ++ s)) (b ++ (e ++ r))
 changed_after a b e s r moved =
     IsPermutation-trans (a ++ (e ++ s)) (e ++ (a ++ s)) (b ++ (e ++ r)) (to_front a e s)
@@ -158,7 +158,7 @@ found_rows positions key (e ∷ es) distinct keyed =
         ∙ append-nil (rows_in e.1)
     by_test rest false other = rest
 
--- of groups, those of a key are what a look-up finds
+-- a look-up of a key finds the key's group
 pub group_of_key : (positions : List ℕ) (key : List Value) (groups : BTreeMap (List Value) KeyRows) → AreGrouped positions groups
     → filter (is_of_key positions key) (rows_of_groups groups.entries) ≡ option_map_or rows_in (get values_cmp groups key) []
 group_of_key positions key groups grouped =
@@ -212,7 +212,7 @@ taken_from positions m n key v w x rest there writes taken moved =
     let left : IsPermutation all rest = IsPermutation-uncons x all rest (IsPermutation-trans (x ∷ all) (rows_of_groups m.entries) (x ∷ rest) one_less moved) in
     subst (λ (es : Entries). IsPermutation (rows_of_groups es) rest) (sym writes.0) left
 
--- and what is in it was in it, whether one was taken or none
+-- after a row is taken from a group, the rows left in it were in it before
 pub still_grouped : (positions : List ℕ) (m n : Groups) (key : List Value) (v w : KeyRows) (x : VersionRow) (r : Bool) → Some v ≡ get values_cmp m key → Writes m n key w
     → OnTrue r (IsPermutation (rows_in v) (x ∷ rows_in w)) → OnFalse r (rows_in w ≡ rows_in v) → AreGrouped positions m → AreGrouped positions n
 still_grouped positions m n key v w x r there writes taken kept grouped =
@@ -222,7 +222,7 @@ still_grouped positions m n key v w x r there writes taken kept grouped =
     was true taken kept y c = Contains-permutation (x ∷ rows_in w) (rows_in v) y (IsPermutation-sym (rows_in v) (x ∷ rows_in w) taken) (Contains-there x (rows_in w) y c)
     was false taken kept y c = subst (λ (xs : List VersionRow). Contains xs y) kept c
 
--- and if none is left, the group may go
+-- a group without rows may be removed
 pub emptied : (n o : Groups) (key : List Value) (w : KeyRows) → get values_cmp n key ≡ Some w → rows_in w ≡ []
     → o.entries ≡ remove_entry (is_at (values_cmp key)) n.entries → rows_of_groups o.entries ≡ rows_of_groups n.entries
 emptied n o key w there none removed = ap rows_of_groups removed ∙ removed_group (is_at (values_cmp key)) n.entries w there none

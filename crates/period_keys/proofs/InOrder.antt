@@ -62,7 +62,7 @@ insert_in_order xs i x inside order before after = λ j k d lt below.
     go j k d lt below (After _ _ n p up) (New _ _ q) = absurd (omega arith)
     go j k d lt below (After _ _ n p up) (After _ _ m q from) = both _ _ _ _ (at_after d j n p up) (at_after d k m q from) (order n m d (omega arith) (omega arith))
 
--- the element that is inserted, and the others
+-- an insertion adds its element to the elements of the list
 pub inserted : {X : Type 0} (xs : List X) (i : ℕ) (x : X) → IsPermutation (insert xs i x) (xs ++ x ∷ [])
 inserted xs i x =
     IsPermutation-trans (insert xs i x) (x ∷ xs) (xs ++ x ∷ [])
@@ -80,7 +80,7 @@ by_start xs m x day order below is le k d lt =
       | inr ge ↦ let here : k ≡ m = omega arith in let also : (get_or xs k d).start ≡ (get_or xs m d).start = ap (λ n. (get_or xs n d).start) here in omega (arith, ints)
     ]
 
--- and those from one on that starts later start later
+-- in a list in order, the elements after one that starts later than a day start later too
 pub from_start :
     (xs : List Period) (m : ℕ) (x : Period) (day : ℤ) → AreInOrder xs → m < length xs → x ≡ get_or xs m x → day <ℤ x.start
     → (k : ℕ) (d : Period) → m ≤ k → k < length xs → day <ℤ (get_or xs k d).start

@@ -58,7 +58,7 @@ index_more positions rows row old new key key_is at is = λ other.
     both true xs ys p = IsPermutation-append_left (row.period ∷ []) xs ys p
     both false xs ys p = p
 
--- a loop's step
+-- a step of the loop that makes an index: one row more
 pub index_step : (positions : List ℕ) (rows : List PeriodRow) (i : ℕ) (row : PeriodRow) (old new : KeyedPeriods) (key : List Value) → i < length rows → row ≡ get_or rows i row → key ≡ key_values positions row
     → ((other : List Value) → IsPermutation (periods_at new other) (cond (eq_by_cmp values_cmp key other) (periods_at old other ++ row.period ∷ []) (periods_at old other)))
     → IsIndexOf positions (take i rows) old → IsIndexOf positions (take (i + 1) rows) new

@@ -1,4 +1,4 @@
--- Worked rows of lawful changes: an INSERT of a row that is there clashes with it, and so do two rows that an UPDATE makes equal; a row that an UPDATE leaves with its key does not clash with itself.
+-- Worked rows of lawful changes: an INSERT of a row of the table clashes with it, and so do two rows that an UPDATE makes equal; a row that an UPDATE leaves with its key does not clash with itself.
 use Rattle.std.proofs.Common.{◌≡◌, ◌∷◌, [], ℕ, ℤ, pos, None, List, refl, sym, ap, subst}
 use Rattle.std.specs.Prelude.{Contains}
 use Rattle.period_core.specs.declared.value.Value.{Value}
@@ -42,7 +42,7 @@ made_equal_clash =
     let second : Traced = record { origin = Kept (worker (pos 2) (pos 3)); row = worker (pos 1) (pos 3) } in
     (first, second, Contains-here first (second ∷ []), Contains-there first (second ∷ []) second (Contains-here second []), numbers_apart, refl)
 
--- one row alone is of one origin
+-- a single row has one origin
 alone-lawful : OriginsShareKey (0 ∷ []) (traced (Update None (renumber ∷ []) None) (pos 12) (worker (pos 2) (pos 3) ∷ [])) → ⊥
 alone-lawful (a, b, in_a, in_b, apart, same) =
     let row : Traced = record { origin = Kept (worker (pos 2) (pos 3)); row = worker (pos 1) (pos 3) } in

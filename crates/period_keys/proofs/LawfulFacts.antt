@@ -1,4 +1,4 @@
--- The faults of a change among the period rows that stand after it.
+-- The faults of a change among the period rows after it.
 use Rattle.std.proofs.Common.{◌≡◌, ◌⊎◌, ◌==◌, ◌∙◌, ℕ, ℤ, Bool, true, false, List, Some, ap, arith, cond, inl, inr, refl, subst, sym}
 use Rattle.std.specs.Prelude.{◌↔◌, IsPermutation, Option, unwrap_or}
 use Rattle.std.proofs.lemmas.List.Sorted.{Contains-permutation, IsPermutation-refl, IsPermutation-sym}

@@ -1,4 +1,4 @@
--- The least of days: of those of either kind, and of the same days.
+-- The least of days: of the days of either kind, and of equal sets of days.
 use Rattle.std.proofs.Common.{◌≡◌, ◌↔◌, ◌⊎◌, ◌≤ℤ◌, ◌<ℤ◌, ◌<◌, ◌+◌, ◌++◌, ◌∷◌, [], ◌∙◌, ℕ, ℤ, List, length, take, get_or, Option, Some, None, sym, ap, subst, inl, inr, arith}
 use Rattle.std.proofs.lemmas.Int.{ints, by_lt_z}
 use Rattle.std.specs.Prelude.{IfOk, Result, Ok, Err, int_lt, if◌then◌else◌}
@@ -17,7 +17,7 @@ pub least_if_same : {E : Type 0} (P Q : ℤ → Type 0) → ((day : ℤ) → (P 
 least_if_same P Q same (Ok found) h = IsLeastOf-same P Q same found h
 least_if_same P Q same (Err e) h = tt
 
--- of two days the test takes the earlier one
+-- the test for the lesser of two days takes the earlier one
 lesser : (day next : ℤ) → (((if int_lt next day then next else day) ≡ next) × (next <ℤ day)) ⊎ (((if int_lt next day then next else day) ≡ day) × (day ≤ℤ next))
 lesser day next =
     by_lt_z {P = (((if int_lt next day then next else day) ≡ next) × (next <ℤ day)) ⊎ (((if int_lt next day then next else day) ≡ day) × (day ≤ℤ next))} next day
@@ -56,14 +56,14 @@ least_with_one {X} P xs x new least =
     ) in
     IsLeastOf-same (λ day. Any (λ y. P y day) xs ⊎ P x day) (λ day. Any (λ y. P y day) (xs ++ x ∷ [])) joined new least
 
--- in a loop, of what the first elements give, or the next
+-- a loop's step: the least day of the first elements, or of the next
 pub least_with_next : {X : Type 0} (P : X → ℤ → Type 0) (xs : List X) (i : ℕ) (x : X) (new : Option ℤ) → i < length xs → x ≡ get_or xs i x
     → IsLeastOf (λ day. Any (λ y. P y day) (take i xs) ⊎ P x day) new → IsLeastOf (λ day. Any (λ y. P y day) (take (i + 1) xs)) new
 least_with_next {X} P xs i x new below is least =
     let list : take (i + 1) xs ≡ take i xs ++ x ∷ [] = take_more xs i x below ∙ ap (λ y. take i xs ++ y ∷ []) (sym is) in
     subst (λ (ys : List X). IsLeastOf (λ day. Any (λ y. P y day) ys) new) (sym list) (least_with_one P (take i xs) x new least)
 
--- with the least of one more
+-- the least day of some elements, with one more
 pub least_one_more : {X : Type 0} (P : X → ℤ → Type 0) (xs : List X) (x : X) (found more new : Option ℤ)
     → IsLeastOf (λ day. Any (λ y. P y day) xs) found → IsLeastOf (P x) more → new ≡ earlier found more
     → IsLeastOf (λ day. Any (λ y. P y day) (xs ++ x ∷ [])) new
@@ -71,7 +71,7 @@ least_one_more {X} P xs x found more new so_far one new_is =
     let Q : ℤ → Type 0 = λ day. Any (λ y. P y day) xs ⊎ P x day in
     least_with_one P xs x new (subst (IsLeastOf Q) (sym new_is) (IsLeastOf-either (λ day. Any (λ y. P y day) xs) (P x) found more so_far one))
 
--- a loop's step: the least of what the first elements give, with that of the next
+-- a loop's step: the least day of the first elements' days, and of the next one's
 pub least_more : {X : Type 0} (P : X → ℤ → Type 0) (xs : List X) (i : ℕ) (x : X) (found more new : Option ℤ) → i < length xs → x ≡ get_or xs i x
     → IsLeastOf (λ day. Any (λ y. P y day) (take i xs)) found → IsLeastOf (P x) more → new ≡ earlier found more
     → IsLeastOf (λ day. Any (λ y. P y day) (take (i + 1) xs)) new
@@ -79,6 +79,6 @@ least_more {X} P xs i x found more new below is so_far one new_is =
     let Q : ℤ → Type 0 = λ day. Any (λ y. P y day) (take i xs) ⊎ P x day in
     least_with_next P xs i x new below is (subst (IsLeastOf Q) (sym new_is) (IsLeastOf-either (λ day. Any (λ y. P y day) (take i xs)) (P x) found more so_far one))
 
--- of no elements there is no day
+-- no elements have no least day
 pub least_none : {X : Type 0} (P : X → ℤ → Type 0) → IsLeastOf (λ day. Any (λ y. P y day) []) None
 least_none P = λ day h. Any-nil (λ y. P y day) h

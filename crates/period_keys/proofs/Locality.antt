@@ -40,7 +40,7 @@ pub IsKeyClash-permutation : (positions : List ℕ) (day : ℤ) (xs ys : List Pe
 IsKeyClash-permutation positions day xs ys moved h =
     SomePair-permutation (ShareKeyOn positions day) (ShareKeyOn-sym positions day) xs ys moved h
 
--- a clash of a row of one list with one of the other is a day that the second row's period shares with those of its key
+-- a clash of a row of one list with one of the other is a day that the second row's period shares with the periods of its key
 pub cross_by_key :
     (positions : List ℕ) (rows others : List PeriodRow) (day : ℤ)
     → (SomeCross (ShareKeyOn positions day) rows others ↔ Any (λ (row : PeriodRow). SharesDay (periods_of_key positions rows (key_values positions row)) row.period day) others)
@@ -74,7 +74,7 @@ clash_of_both positions rows others day =
       ],
     )
 
--- the periods at a key are those of its rows
+-- the periods at a key are the periods of the rows of this key
 at_has : (positions : List ℕ) (rows : List PeriodRow) (at : List Value → List Period) → AreAtKeys positions rows at → (key : List Value) (period : Period)
     → (Contains (at key) period ↔ Contains (periods_of_key positions rows key) period)
 at_has positions rows at is key period = (
@@ -82,12 +82,12 @@ at_has positions rows at is key period = (
   λ c. Contains-permutation (periods_of_key positions rows key) (at key) period (IsPermutation-sym (at key) (periods_of_key positions rows key) (is key)) c,
 )
 
--- the periods of an index at a key are those of its rows
+-- the periods of an index at a key are the periods of the rows of this key
 pub index_has : (positions : List ℕ) (rows : List PeriodRow) (index : KeyedPeriods) → IsIndexOf positions rows index → (key : List Value) (period : Period)
     → (Contains (periods_at index key) period ↔ Contains (periods_of_key positions rows key) period)
 index_has positions rows index is key period = at_has positions rows (periods_at index) is key period
 
--- if no two rows of a key share a day, a key's periods that do not go are those of its rows that stay
+-- if no two rows of a key share a day, a key's periods that do not go are the periods of its rows that stay
 pub kept_are_staying :
     (positions : List ℕ) (at : List Value → List Period) (before ended stay : List PeriodRow)
     → AreAtKeys positions before at → HasNoClash positions before → IsPermutation before (ended ++ stay)

@@ -11,7 +11,7 @@ worked_at {X} {Y} f ys xs i y x made below y_is x_is =
 pub next_left : {X : Type 0} (xs : List X) (i : ℕ) (x : X) → i < length xs → x ≡ get_or xs i x → drop i xs ≡ x ∷ drop (i + 1) xs
 next_left xs i x below is = drop_more xs i x below ∙ ap (λ y. y ∷ drop (i + 1) xs) (sym is)
 
--- of the first so many
+-- the rest of the first elements of a list begins with the next one
 pub next_of_first : {X : Type 0} (xs : List X) (count i : ℕ) (x : X) → i < count → count ≤ length xs → x ≡ get_or xs i x → drop i (take count xs) ≡ x ∷ drop (i + 1) (take count xs)
 next_of_first xs count i x below inside is =
     let size : length (take count xs) ≡ count = length-take-le count xs inside in

@@ -1,4 +1,4 @@
--- Rows whose periods are kept with their places: what the blocks of these find.
+-- Rows whose periods are stored with their places: the rows that their blocks find.
 use Rattle.std.proofs.Common.{◌≡◌, ◌↔◌, ◌<◌, ◌≤ℤ◌, ◌∷◌, [], ◌∙◌, ℕ, ℤ, Bool, Option, Some, None, List, length, get_or, map, sym, ap, subst, arith}
 use Rattle.std.specs.Bool.{IsTrue}
 use Rattle.std.specs.List.{Any, Contains}
@@ -28,7 +28,7 @@ at_place rows item here found below same = (
 pub both_meet : (one other : Period) (day : ℤ) → BothHold day other one → Meets one other
 both_meet one other day ((other_from, other_to), (from, to)) = (omega (arith, ints), omega (arith, ints))
 
--- some row of some rows
+-- a row of a list that is not empty
 some_row : (rows : List VersionRow) → 0 < length rows → VersionRow
 some_row [] some = absurd (omega (arith, some))
 some_row (row ∷ rows) some = row
@@ -40,11 +40,11 @@ contains_period rows item (below, is) =
     let row : VersionRow = some_row rows (omega arith) in
     (item.place, omega arith, get_or-map period_of rows item.place row item.period below ∙ is row)
 
--- the other is kept, and shares the day
+-- the period is not removed, and holds the day
 abbrev pub IsKept : List Period → Period → ℤ → Period → Type 0
 IsKept gone period day other = BothHold day period other × (Contains gone other → ⊥)
 
--- the days that a period shares with kept rows, by blocks that lack no row
+-- the days that a period shares with rows that are not removed, by blocks that lack no row
 module _ (rows : List VersionRow) (placed : PeriodBlocks) (gone : List Period) (period : Period) (complete : ArePlaced rows placed) where
   abbrev pub InBlocks : ℤ → Type 0
   InBlocks day = Any (λ (block : Block). Any (IsKeptAt rows gone period day) block.items.items) placed.blocks.items

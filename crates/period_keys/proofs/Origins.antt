@@ -41,7 +41,7 @@ apart_pair {X} R turned xs a b (i, at_i, a_is) (j, at_j, b_is) differ related =
       ]
     ]
 
--- the elements of a pair
+-- a list has both elements of a pair of its places
 of_pair : {X : Type 0} (R : X → X → Type 0) (xs : List X) (i j : ℕ) (lt : i < j) (below : j < length xs) → (d : X) → Contains xs (get_or xs i d) × Contains xs (get_or xs j d)
 of_pair R xs i j lt below d = ((i, omega arith, get_or_default xs i (get_or xs i d) d (omega arith)), (j, below, get_or_default xs j (get_or xs j d) d below))
 

@@ -24,7 +24,7 @@ keys_at_place rows indexes keys i index own made below index_is own_is =
     own_is ∙ ap (λ (ks : List (List (List Value))). get_or ks i own) made ∙ get_or-map by (map positions_by indexes) i index.positions own inside
     ∙ ap by (get_or-map positions_by indexes i index index.positions below ∙ ap positions_by (sym index_is))
 
--- a write that keeps an index's positions keeps those of all
+-- a write of an index with the same positions leaves the positions of the whole list
 pub set_same : (xs : List PeriodIndex) (i : ℕ) (w d : PeriodIndex) → i < length xs → w.positions ≡ (get_or xs i d).positions → map positions_by (set xs i w) ≡ map positions_by xs
 set_same [] i w d below same = refl
 set_same (x ∷ xs) zero w d below same = ap (λ ps. ps ∷ map positions_by xs) same
@@ -68,7 +68,7 @@ partly_moved first others second xs i moved partly = λ k d below.
 pub each_moved : (rows others : List PeriodRow) (xs : List PeriodIndex) → IsPermutation rows others → EachIndexes rows xs → EachIndexes others xs
 each_moved rows others xs moved each = λ k d below. index_moved (get_or xs k d).positions rows others (get_or xs k d).periods moved (each k d below)
 
--- a write at the place leaves those before it, and the others if it has the second rows
+-- a write at the place leaves the indexes before it, and those after it if it has the second rows
 pub partly_kept : (first second : List PeriodRow) (xs : List PeriodIndex) (i : ℕ) (w : PeriodIndex) → i < length xs → PartlyIndex first second xs i → Indexes second w → PartlyIndex first second (set xs i w) i
 partly_kept first second xs i w inside partly new = λ k d below.
     let size : length (set xs i w) ≡ length xs = length-set xs i w in
@@ -98,7 +98,7 @@ rows_joined all first second rows moved are =
     subst (λ (front : List PeriodRow). IsPermutation (map row_of all) (front ++ map row_of second)) are
     (subst (IsPermutation (map row_of all)) (map-append row_of first second) (IsPermutation-map row_of all (first ++ second) moved))
 
--- the indexes after rows went
+-- the indexes after rows are removed
 pub each_after_taken :
     (old new first rest : List VersionRow) (rows : List PeriodRow) (given after : List PeriodIndex) → IsPermutation old (first ++ rest) → IsPermutation new rest → map row_of first ≡ rows
     → ((left : List PeriodRow) → EachIndexes (rows ++ left) given → EachIndexes left after) → EachIndexes (map row_of old) given → EachIndexes (map row_of new) after

@@ -20,7 +20,7 @@ use Rattle.period_keys.specs.declared.ordered_periods.OrderedPeriods.{OrderedPer
 abbrev pub read : {V : Type 0} → (V → List Period) → BTreeMap (List Value) V → List Value → List Period
 read items m key = option_map_or items (get values_cmp m key) []
 
--- after a write at one key, which makes this list of the old one
+-- the periods at each key after a write at one key, which makes this list of the old one
 pub read_changed : {V : Type 0} (items : V → List Period) (m n : BTreeMap (List Value) V) (key : List Value) (w : V)
     (more : List Period → List Period) → Updates values_cmp m n key (Some w) → items w ≡ more (read items m key)
     → (other : List Value) → read items n other ≡ cond (eq_by_cmp values_cmp key other) (more (read items m other)) (read items m other)
@@ -33,7 +33,7 @@ read_changed items m n key w more u is other =
     by_test true e = is ∙ ap (λ k. more (read items m k)) ((values_eq key other).0 e)
     by_test false e = refl
 
--- after a write at one key, which adds these to its list, in some order
+-- the periods at each key after a write at one key, which adds these to its list, in some order
 pub read_moved : {V : Type 0} (items : V → List Period) (m n : BTreeMap (List Value) V) (key : List Value) (w : V) (more : List Period)
     → Updates values_cmp m n key (Some w) → IsPermutation (items w) (read items m key ++ more)
     → (other : List Value) → IsPermutation (read items n other) (cond (eq_by_cmp values_cmp key other) (read items m other ++ more) (read items m other))
@@ -61,7 +61,7 @@ pub cond_same : {X : Type 0} (b : Bool) (x : X) → cond b x x ≡ x
 cond_same true x = refl
 cond_same false x = refl
 
--- at other keys than the one that is written
+-- a write at one key leaves the periods at other keys
 pub read_apart : {V : Type 0} (items : V → List Period) (m n : BTreeMap (List Value) V) (key : List Value) (w : V) → Updates values_cmp m n key (Some w)
     → (other : List Value) → (key ≡ other → ⊥) → read items n other ≡ read items m other
 read_apart items m n key w u other apart = ap (λ o. option_map_or items o []) (u.0 other ∙ by_test (eq_by_cmp values_cmp key other) refl)

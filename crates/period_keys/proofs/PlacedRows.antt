@@ -24,7 +24,7 @@ some : {X : Type 0} (xs : List X) → 0 < length xs → X
 some [] more = absurd (omega (arith, more))
 some (x ∷ xs) more = x
 
--- elements from a place on that fail the test are not kept
+-- elements from a place on that fail the test are dropped
 kept_to : {X : Type 0} (test : X → Bool) (xs : List X) (n m : ℕ) → n + m ≤ length xs → ((j : ℕ) (d : X) → n ≤ j → j < n + m → test (get_or xs j d) ≡ false) → filter test (take (n + m) xs) ≡ filter test (take n xs)
 kept_to test xs n zero within fails = ap (λ k. filter test (take k xs)) (let e : n + 0 ≡ n = omega arith in e)
 kept_to {X} test xs n (suc m) within fails =
@@ -35,13 +35,13 @@ kept_to {X} test xs n (suc m) within fails =
     ∙ ap (λ (one : List X). filter test (take (n + m) xs) ++ one) (ap (λ b. cond b (x ∷ []) []) (fails (n + m) d (omega arith) (omega arith)))
     ∙ append-nil (filter test (take (n + m) xs)) ∙ kept_to test xs n m (omega arith) (λ j e from below. fails j e from (omega arith))
 
--- up to a place that is no earlier
+-- the elements that pass up to a place are all up to a later one, if none between passes
 pub kept_up_to : {X : Type 0} (test : X → Bool) (xs : List X) (n p : ℕ) → n ≤ p → p ≤ length xs → ((j : ℕ) (d : X) → n ≤ j → j < p → test (get_or xs j d) ≡ false) → filter test (take p xs) ≡ filter test (take n xs)
 kept_up_to test xs n p upto within fails =
     let is : n + (p - n) ≡ p = omega arith in
     ap (λ k. filter test (take k xs)) (sym is) ∙ kept_to test xs n (p - n) (omega arith) (λ j d from below. fails j d from (omega arith))
 
--- sorted places
+-- sorted places rise from one to a later one
 sorted_upto : (places : List ℕ) (i k : ℕ) (d : ℕ) → IsSorted nat_cmp places → i ≤ k → k < length places → get_or places i d ≤ get_or places k d
 sorted_upto places i k d up upto below = ge_from_not_lt (get_or places k d) (get_or places i d) (sorted_far (λ x y. is_lt (nat_cmp x y)) (ranks_by nat_cmp_total (λ (n : ℕ). n)) places up i k d upto below)
 
@@ -81,7 +81,7 @@ quiet_after action rows places i next all passed past bound =
     ap (filter (touched action)) (sym (take_all (length rows) rows (omega arith)))
     ∙ kept_up_to (touched action) rows next (length rows) bound (omega arith) (λ j d low high. quiet action rows places i next j d all passed low high (λ k ge below is. omega arith))
 
--- one place more is passed
+-- a walk over sorted places has passed one more
 pub passed_more : (rows : List VersionRow) (places : List ℕ) (i next new : ℕ) → i < length places → ArePassed rows places i next → next ≤ new → (get_or places i 0 < new) ⊎ (length rows ≤ get_or places i 0) → ArePassed rows places (i + 1) new
 passed_more rows places i next new below passed upto one = λ k d lt.
     elim (cases_lt k i) [
@@ -128,7 +128,7 @@ front [] ys k d below = absurd (omega (arith, below))
 front (x ∷ xs) ys zero d below = refl
 front (x ∷ xs) ys (suc k) d below = front xs ys k d (omega (arith, below))
 
--- one row more, after the others
+-- one row more at the end
 pub placed_next : (rows before : List VersionRow) (row : VersionRow) (old new : PeriodBlocks) → rows ≡ before ++ row ∷ [] → ArePlaced before old → ((x : PlacedPeriod) → HasPlaced old x → HasPlaced new x)
     → HasPlaced new (record { period = row.period; place = length before }) → ArePlaced rows new
 placed_next rows before row old new is placed kept there =

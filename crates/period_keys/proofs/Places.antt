@@ -63,7 +63,7 @@ position_found t place xs i x n same here item count before value at =
     place_by test (value_places t) (value_places t) n i refl (slice_get_within (value_places t) n i there) first
     (sym (get_or_from_slice_get (value_places t) n i i there)) at
 
--- one more place, which is another
+-- the position of a place among more places, if the next is another
 pub position_more : (place : ℕ) (places : List ℕ) (x n : ℕ) → length places ≡ n → position_or_len (λ other. place == other) places ≡ n → place == x ≡ false
     → (length (places ++ x ∷ []) ≡ n + 1) × (position_or_len (λ other. place == other) (places ++ x ∷ []) ≡ n + 1)
 position_more place places x n count before other =
@@ -89,7 +89,7 @@ position_end t place xs i n same done count before =
     let past : nat_lt (position_or_len test (value_places t)) (length (value_places t)) ≡ false = grind arith in
     rw past refl
 
--- one more place, which has a position or has none
+-- the positions of places, with one more place that has one or none
 pub position_with : (f : ℕ → Option ℕ) (places : List ℕ) (i n : ℕ) → i < length places → f (get_or places i 0) ≡ Some n
     → filter_map f (take (i + 1) places) ≡ filter_map f (take i places) ++ n ∷ []
 position_with f places i n here is =
@@ -108,7 +108,7 @@ position_without f places i here is =
     one : (x : ℕ) → f x ≡ None → filter_map f (x ∷ []) ≡ []
     one x e = rw e refl
 
--- the test of two places
+-- equal places pass the test of places
 pub same_place : (place i : ℕ) → place ≡ i → place == i ≡ true
 same_place place i e = grind (arith, nat_tests)
 

@@ -25,7 +25,7 @@ joined p q = record { ended = p.ended ++ q.ended; added = p.added ++ q.added }
 added_by : (action : Action) (rows : List PlainRow) → inserted_by action ≡ [] → added action rows ≡ flat_map (replacements action) rows
 added_by action rows none = ap (λ (given : List InsertedRow). map plain_given given ++ flat_map (replacements action) rows) none
 
--- one list after another
+-- the plans of two lists, joined, are the plan of both together
 pub plans_joined : (action : Action) (xs ys : List VersionRow) (p q : Plan) → inserted_by action ≡ [] → Plans action xs p → Plans action ys q → Plans action (xs ++ ys) (joined p q)
 plans_joined action xs ys p q none first second = record {
   ended = ap (λ (l : List VersionRow). l ++ q.ended) first.ended ∙ ap (λ (l : List VersionRow). filter (touched action) xs ++ l) second.ended ∙ sym (filter-append (touched action) xs ys);

@@ -158,7 +158,7 @@ between (x ∷ p) lower upper (y ∷ k) (z ∷ l) from less leads below = by_ord
         (ap₂ (λ (v : Value) (vs : List Value). v ∷ vs) tied its.0, its.1)
     by_order others Greater is = absurd (false≢true (sym (ap (λ (r : Ordering). is_le (ordering_then r (values_cmp start k))) is) ∙ from))
 
--- a decided beginning
+-- a test of whether a key leads a list is `begins_with`
 pub begins_is : (b : Bool) (p k : List Value) → (IsTrue b ↔ Leads p k) → b ≡ begins_with p k
 begins_is b p k decides =
     both_ways b (begins_with p k) (λ is. (values_eq p (take (length p) k)).1 (decides.0 is)) (λ is. decides.1 ((values_eq p (take (length p) k)).0 is))
@@ -184,7 +184,7 @@ module _ (range : KeyRange) where
   abbrev pub is_from : List Value × KeyRows → Bool
   is_from group = range_contains values_cmp (bound.Included (first_values range)) bound.Unbounded group.0
 
-  -- the first of these groups, if there is one, is neither in the range nor passed over
+  -- the first of the groups, if there is one, is neither in the range nor passed over
   abbrev pub StopsAt : Entries → Type 0
   StopsAt [] = ⊤
   StopsAt (group ∷ groups) = (is_in group ≡ false) × (is_passed_over range group.0 ≡ false)
@@ -201,7 +201,7 @@ module _ (range : KeyRange) where
   in_from group is = (let its = parts group is in
       ap (λ (b : Bool). b && true) (not_before range.leading.items range.lower group.0 its.0 its.1))
 
-  -- behind a group that is not before the first values, and neither in the range nor passed over, none is in the range
+  -- after a group that is not before the first values, and neither in the range nor passed over, none is in the range
   none_behind : (first group : List Value × KeyRows) → is_from first ≡ true → is_in first ≡ false → is_passed_over range first.0 ≡ false → values_cmp first.0 group.0 ≡ Less → is_in group ≡ true → ⊥
   none_behind first group from out over less is =
       let its = parts group is in
@@ -230,7 +230,7 @@ module _ (range : KeyRange) where
       by_test true rest = (all.0, rest)
       by_test false rest = rest
 
-  -- of ordered groups that are not before the first values, those behind one are after it
+  -- in an ordered list from the first values on, the groups after a group have later keys
   ordered_behind : (groups seen : Entries) (group : List Value × KeyRows) (rest : Entries) → IsStrictlySortedBy values_cmp (keys_of groups) → filter is_from groups ≡ seen ++ group ∷ rest → AllByRecursion (λ (key : List Value). values_cmp group.0 key ≡ Less) (keys_of rest)
   unfolding IsStrictlySortedBy
   ordered_behind [] [] group rest ordered split = absurd cc
@@ -318,7 +318,7 @@ get_here : (xs : List Value) (v : Value) (ys : List Value) → slice_get (xs ++ 
 get_here [] v ys = refl
 get_here (x ∷ xs) v ys = get_here xs v ys
 
--- the value after them is the one at the next position
+-- the value after the leading ones is at the next position
 next_value : (positions : List ℕ) (leading values : List Value) (next : ℕ) (v : Value) → values_at (take (length leading) positions) values ≡ leading → slice_get positions (length leading) ≡ Some next → slice_get values next ≡ Some v
     → slice_get (values_at positions values) (length leading) ≡ Some v
 next_value positions leading values next v first at is =
@@ -352,7 +352,7 @@ in_range range positions values next first at above below =
     ap₂ (λ (a b : Bool). a && b) (begins positions leading values first)
     (ap₂ (λ (a b : Bool). a && b) (kept_above range.lower (slice_get values next) own moved above) (kept_below range.upper (slice_get values next) own moved below))
 
--- one without limits is if it begins so
+-- a key is in a range without limits if it begins with the range's leading values
 pub led_in_range : (range : KeyRange) (positions : List ℕ) (values : List Value) → values_at (take (length range.leading.items) positions) values ≡ range.leading.items → range.lower ≡ Unbounded → range.upper ≡ Unbounded → is_in_range range (values_at positions values) ≡ true
 led_in_range range positions values first lower upper =
     let own = slice_get (values_at positions values) (length range.leading.items) in

@@ -63,7 +63,7 @@ fault_by_parent catalog before change number child reference parent found is lea
       λ (other, other_is, h). subst (λ p. Lacks p day) (definition_is other parent (sym other_is ∙ is)) h,
     )) found least
 
--- nor does one that neither is of the changed table nor refers to it
+-- a reference that neither is of the changed table nor refers to it has no fault
 pub fault_elsewhere : (catalog : List TableDef) (before : State) (change : Change) (number : ℕ) (child : TableDef) (reference : Reference) → IsLawfulState catalog before
     → table_of catalog number ≡ Some child → Contains child.references reference → (number ≡ change.table → ⊥) → (reference.parent ≡ change.table → ⊥)
     → IsLeastOf (λ day. IsFaultBy catalog before change number child day reference) None
@@ -81,7 +81,7 @@ IsFaultBelow catalog before change count day =
 pub none_below : (catalog : List TableDef) (before : State) (change : Change) → IsLeastOf (IsFaultBelow catalog before change 0) None
 none_below catalog before change day (place, below, child, is, h) = omega (arith, below)
 
--- a loop's step
+-- the least gap of the children in the tables so far, with one table's more
 pub below_more : (catalog : List TableDef) (before : State) (change : Change) (place : ℕ) (child : TableDef) (found here new : Option ℤ) → slice_get catalog place ≡ Some child
     → IsLeastOf (IsFaultBelow catalog before change place) found → IsLeastOf (IsFaultOf catalog before change (place + 1) child) here → new ≡ earlier found here
     → IsLeastOf (IsFaultBelow catalog before change (place + 1)) new

@@ -102,7 +102,7 @@ pub record AreRuns (settled : ℕ) (periods : List Period) : Type 0 where
 fits_order : (xs : List Period) (x : Period) (place : ℕ) → FitsAt x.start xs place → AreInOrder xs → AreInOrder (insert xs place x)
 fits_order xs x place fits order = insert_in_order xs place x fits.0 order fits.1 fits.2
 
--- a period that is settled
+-- a period is added to the settled run
 pub settles : (settled place : ℕ) (periods : List Period) (x : Period) → AreRuns settled periods → drop settled periods ≡ [] → FitsAt x.start (take settled periods) place
     → AreRuns (settled + 1) (insert periods place x)
 settles settled place periods x runs none fits =
@@ -117,7 +117,7 @@ settles settled place periods x runs none fits =
       late = none_in_order (drop (settled + 1) (insert periods place x)) (all_dropped (insert periods place x) (settled + 1) (omega arith));
     }
 
--- a period that is late
+-- a period is added to the late run
 pub comes_late : (settled place p : ℕ) (periods : List Period) (x : Period) → AreRuns settled periods → place ≡ settled + p → FitsAt x.start (drop settled periods) p
     → AreRuns settled (insert periods place x)
 comes_late settled place p periods x runs is fits =
@@ -136,7 +136,7 @@ ComesIn day settled periods place settles =
     (settles ≡ true → (drop settled periods ≡ []) × FitsAt day (take settled periods) place)
     × (settles ≡ false → (p : ℕ) × (place ≡ settled + p) × FitsAt day (drop settled periods) p)
 
--- a settled one is gone
+-- a period is removed from the settled run
 pub settled_gone : (settled place : ℕ) (periods : List Period) → AreRuns settled periods → place < settled → AreRuns (settled - 1) (remove periods place)
 settled_gone settled place periods runs lt =
     let one : suc (settled - 1) ≡ settled = omega arith in
@@ -150,7 +150,7 @@ settled_gone settled place periods runs lt =
       late = subst AreInOrder (sym (drop_remove periods (settled - 1) place (omega arith))) (subst (λ n. AreInOrder (drop n periods)) (sym one) runs.late);
     }
 
--- a late one is gone
+-- a period is removed from the late run
 pub late_gone : (settled place : ℕ) (periods : List Period) → AreRuns settled periods → settled ≤ place → place < length periods → AreRuns settled (remove periods place)
 late_gone settled place periods runs ge inside =
     let is : settled + (place - settled) ≡ place = omega arith in

@@ -67,12 +67,12 @@ table_with_clash catalog state number def rows (Some day) holds least some = (
   λ lawful. absurd (lawful.keys day ((clash_of_state (key_positions def) rows state number holds day).0 least.faulty)),
 )
 
--- nor is one with a reference that is not covered
+-- a table with a reference that is not covered is not lawful
 pub table_uncovered : (catalog : List TableDef) (state : State) (number : ℕ) (def : TableDef) (reference : Reference) → Contains def.references reference
     → (IsTrue false ↔ IsCoveredBy catalog state number def reference) → (IsTrue false ↔ IsLawfulTable catalog state number def)
 table_uncovered catalog state number def reference there law = (λ t. cc, λ lawful. law.1 (lawful.references reference there))
 
--- each other is
+-- a table without a key clash, all of whose references are covered, is lawful
 pub table_covered : (catalog : List TableDef) (state : State) (number : ℕ) (def : TableDef) (rows : List PeriodRow) (found : Option ℤ) → HoldsTable rows state number
     → IsLeastOf (IsKeyClash (key_positions def) rows) found → is_some found ≡ false → ((reference : Reference) → Contains def.references reference → IsCoveredBy catalog state number def reference)
     → (IsTrue true ↔ IsLawfulTable catalog state number def)
@@ -87,7 +87,7 @@ table_covered catalog state number def rows None holds least none each = (
 
 -- ---- all tables
 
--- the first tables are lawful
+-- the first tables of a state are lawful
 abbrev pub AreLawfulBelow : List TableDef → State → ℕ → Type 0
 AreLawfulBelow catalog state count = (place : ℕ) (def : TableDef) → place < count → slice_get catalog place ≡ Some def → IsLawfulTable catalog state (suc place) def
 

@@ -49,7 +49,7 @@ below_more rows n day = (
   ],
 )
 
--- an earlier entry of the next one's values has those of the one that ends latest
+-- an earlier entry with the values of the next one has the values of the entry that ends latest
 same_run : (rows : List PeriodRow) (n latest i : ℕ) (d : PeriodRow) → AllPairs NotAfter rows → n < length rows → (get_or rows latest d).values ≡ (get_or rows (n - 1) d).values → i < n → (get_or rows i d).values ≡ (get_or rows n d).values → (get_or rows i d).values ≡ (get_or rows latest d).values
 same_run rows n latest i d order below last lt same =
     elim (cases_lt i (n - 1)) [
@@ -105,7 +105,7 @@ turn rows n latest found more new first row order below place is_first is_row la
     (subst (IsLeastOf (λ day. RepeatsBelow rows n day ⊎ NewPair rows n day)) (sym new_is)
     (IsLeastOf-either (RepeatsBelow rows n) (NewPair rows n) found more so_far newest))
 
--- the entries passed are all
+-- a sweep that has passed all entries has found the least repeat
 pub found_all : (rows : List PeriodRow) (n : ℕ) (found : Option ℤ) → length rows ≤ n → (1 < n → n ≤ length rows) → IsLeastOf (RepeatsBelow rows n) found → IsLeastOf (Repeats rows) found
 found_all rows n found all bound so_far =
     IsLeastOf-same (RepeatsBelow rows n) (Repeats rows)

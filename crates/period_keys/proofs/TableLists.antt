@@ -86,7 +86,7 @@ indexed_set tables place old new there more (suc place_of) positions (table, is,
       | inr other ↦ (table, set_elsewhere tables place place_of new other ∙ is, has)
     ]
 
--- one of the tables has more
+-- tables with more indexes, if one of them has more
 pub have_more_set : (tables : List TableRows) (place : ℕ) (old new : TableRows) → slice_get tables place ≡ Some old → HasMoreIndexes old new → HaveMoreIndexes tables (set tables place new)
 have_more_set tables place old new there more = record {
   same = map-set_same rows_by_key tables place new old (same_rows old new more ∙ sym (ap rows_by_key (get_or_from_slice_get tables place old old there)));
@@ -95,7 +95,7 @@ have_more_set tables place old new there more = record {
   same_rows : (x y : TableRows) → HasMoreIndexes x y → rows_by_key y ≡ rows_by_key x
   same_rows x y h = rw (h.positions, h.rows) refl
 
--- a table more
+-- tables with more indexes, and one table more
 pub have_more_last : (old tables : List TableRows) (table : TableRows) → HaveMoreIndexes old tables
     → (number : ℕ) (positions : List ℕ) → IsIndexedBy old number positions → IsIndexedBy (tables ++ table ∷ []) number positions
 have_more_last old tables table more zero positions (t, is, has) = cc
@@ -122,7 +122,7 @@ number_inside tables (suc place) t is =
     let inside : place < length tables = slice_get_within tables place t is in
     omega (arith, inside)
 
--- the table of a number
+-- the table of a number is at the place before it
 pub table_at : {T : Type 0} (tables : List T) (number : ℕ) (table here : T) → here ≡ get_or tables (number - 1) here → table_of tables number ≡ Some table → here ≡ table
 table_at tables zero table here is found = cc
 table_at tables (suc place) table here is found =
@@ -157,7 +157,7 @@ all_indexed catalog tables count all done (suc place) child is =
     let next : place + 1 ≡ suc place = omega arith in
     λ reference parent there parent_is. subst (λ (n : ℕ). IsIndexed tables n child reference parent) next (done place child (omega (arith, inside, all)) is reference parent there parent_is)
 
--- with a table more, whose references are indexed
+-- tables with one more, whose references are indexed
 pub with_table_indexed : (catalog : List TableDef) (old tables : List TableRows) (def : TableDef) (table : TableRows) → length old ≡ length catalog → ReferToEarlier (catalog ++ def ∷ [])
     → HaveMoreIndexes old tables → AreParentsIndexed catalog def tables → IsIndexedAsChild def table → HaveIndexes catalog old → HaveIndexes (catalog ++ def ∷ []) (tables ++ table ∷ [])
 with_table_indexed catalog old tables def table count earlier more parents children was zero child is reference parent there parent_is = cc

@@ -1,4 +1,4 @@
--- Steps of the check of a change: what the next added row shares with those that are kept, and with the added ones before it.
+-- Steps of the check of a change: the days that the next added row shares with remaining rows, and with the added rows before it.
 use Rattle.std.proofs.Common.{◌≡◌, ◌↔◌, ◌∙◌, ℕ, ℤ, List, Option, sym, ap, subst}
 use Rattle.std.specs.List.{Contains}
 use Rattle.std.specs.List.Sorted.{IsPermutation}
@@ -12,7 +12,7 @@ use Rattle.period_keys.specs.Index.{periods_at, periods_of_key, IsIndexOf, Share
 use Rattle.period_keys.proofs.Members.{some_member, member_of}
 use Rattle.period_keys.proofs.Leasts.{IsLeastOf-same}
 
--- the day that a row shares with those that are kept, found in an index of those that go
+-- the day that a row shares with remaining ones, found in an index of the removed rows
 pub meets_kept :
     (positions : List ℕ) (at : List Value → List Period) (gone : KeyedPeriods) (ended : List PeriodRow) (row : PeriodRow) (key : List Value) (periods going : List Period) (found : Option ℤ)
     → key ≡ key_values positions row → periods ≡ at key → going ≡ periods_at gone key → IsIndexOf positions ended gone

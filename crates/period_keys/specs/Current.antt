@@ -13,7 +13,7 @@ use Rattle.period_keys.specs.TableRows.{TableRows}
 
 -- ---- rows
 
--- the rows, by the table's key, are on each day those of the table of this number
+-- on each day, the rows by the table's key are the rows of the table of this number
 pub record HoldsCurrent (state : State) (number : ℕ) (def : TableDef) (table : RowsByKey)
     : Type 0 where
   pub keyed : table.positions ≡ key_positions def
@@ -26,7 +26,7 @@ HoldCurrent catalog state tables =
     → (table : RowsByKey) × (table_of tables number ≡ Some table)
     × HoldsCurrent state number def table
 
--- the rows of the table of this number became these, in some order, and no others changed
+-- the rows of the table of this number became these, in some order, and no other table changed
 pub record HaveTableRows (number : ℕ) (wanted : List VersionRow) (old new : List RowsByKey)
     : Type 0 where
   pub there :
@@ -92,7 +92,7 @@ pub record HaveMoreIndexes (old new : List TableRows) : Type 0 where
 
 -- ---- catalogs
 
--- each reference is to an earlier table: CREATE refuses one to a table that is not there yet, so
+-- each reference is to an earlier table: CREATE refuses one to a table that does not exist yet, so
 -- also to itself
 abbrev pub ReferToEarlier : List TableDef → Type 0
 ReferToEarlier catalog =

@@ -101,7 +101,7 @@ comparison_holds comparison c row position value says h =
       | inr sides ↦ holds_right comparison c row position value sides.0 sides.1 sides.2 h
     ]
 
--- so does a test of a version
+-- a test of a version holds as the comparison of its column with the literal
 pub version_comparison_holds
     : (comparison : Comparison) (test : VersionTest) (version : VersionRow) (position : ℕ)
     (value : Value)

@@ -35,7 +35,7 @@ pub record RefersToOther (catalog : List TableDef) (before : State) (change : Ch
   pub holds : HoldsTable above before reference.parent
   pub indexed : IsIndexOf (parent_positions parent reference) above parents
 
--- another table refers to the changed one: its rows are in one index by its own columns, those of
+-- another table refers to the changed one: its rows are in one index by its own columns, rows of
 -- the changed one in another by the columns referred to
 pub record IsReferredTo (catalog : List TableDef) (before : State) (change : Change)
     (current : List VersionRow) (number : ℕ) (child : TableDef) (reference : Reference)

@@ -73,7 +73,7 @@ abbrev mutual
 abbrev pub HasValue : (ℕ → Value → Type 0) → ℕ → Type 0
 HasValue Says position = (value : Value) × Says position value
 
--- the property holds of the first `count` of these, and not of the one after them
+-- the property holds of the first `count` elements, and not of the one after them
 pub record HoldsOfFirst {X : Type 0} (Has : X → Type 0) (xs : List X) (count : ℕ) : Type 0 where
   pub within : count ≤ length xs
   pub first : All Has (take count xs)
@@ -143,7 +143,7 @@ SaysEqual condition place other =
     × (((c.left ≡ Position place) × (c.right ≡ Position other))
     ⊎ ((c.right ≡ Position place) × (c.left ≡ Position other)))
 
--- one of the conditions says it
+-- one of the conditions says that the values at two places are equal
 abbrev pub SomeSaysEqual : List (Tree CompareValues) → ℕ → ℕ → Type 0
 SomeSaysEqual conditions place other =
     Any (λ condition. SaysEqual condition place other) conditions
@@ -177,14 +177,14 @@ abbrev pub has_side : List ℕ → Comparand → Bool
 has_side places (Position place) = list_any (λ other. other == place) places
 has_side places (Literal value) = false
 
--- both sides of a comparison are
+-- both sides of a comparison are among the places
 abbrev pub has_sides : List ℕ → Condition CompareValues → Bool
 has_sides places (any parts) = false
 has_sides places (all parts) = false
 has_sides places (negated part) = false
 has_sides places (test c) = has_side places c.left && has_side places c.right
 
--- there are no more places than such conditions, beside one
+-- the number of places is at most one more than the number of such conditions
 abbrev pub AreFew : List (Tree CompareValues) → List ℕ → Type 0
 AreFew conditions places =
     length places

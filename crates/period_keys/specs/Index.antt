@@ -40,19 +40,19 @@ earlier None other = other
 earlier (Some day) None = Some day
 earlier (Some day) (Some next) = Some (if int_lt next day then next else day)
 
--- the period and one that is kept, since it is not among those that go, both hold the day
+-- the day is in the period and in a period of the list that is not among the removed ones
 abbrev pub SharesDayOfKept : List Period → List Period → Period → ℤ → Type 0
 SharesDayOfKept periods gone period day =
     Any (λ other. BothHold day period other × (Contains gone other → ⊥)) periods
 
--- the added row and a row of its key that is kept both hold on the day
+-- the added row and a row of its key that is not removed both hold on the day
 abbrev pub MeetsKept : List ℕ → (List Value → List Period) → List PeriodRow → ℤ → PeriodRow
     → Type 0
 MeetsKept positions at ended day row =
     SharesDayOfKept (at (key_values positions row))
     (periods_of_key positions ended (key_values positions row)) row.period day
 
--- an added row clashes with a row that is kept, or with another added one
+-- an added row clashes with a row that is not removed, or with another added one
 abbrev pub AddsClash : List ℕ → (List Value → List Period) → List PeriodRow → List PeriodRow
     → ℤ → Type 0
 AddsClash positions at ended added day =

@@ -26,7 +26,7 @@ KeyFaultsAreClashes =
     → (day : ℤ)
     → (IsKeyClash (key_positions def) after day ↔ IsKeyFault catalog before change day)
 
--- child rows without a parent are those of the lists that hold the state
+-- the uncovered child rows of any lists that hold the state are the state's own
 abbrev pub LackingParentsAreUncovered : Type 0
 LackingParentsAreUncovered =
     (state : State) (number : ℕ) (child : TableDef) (reference : Reference) (parent : TableDef)

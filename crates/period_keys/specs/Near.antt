@@ -1,4 +1,4 @@
--- Rows of a key whose periods are kept with their places.
+-- Rows of a key whose periods are stored with their places.
 use Rattle.std.specs.Prelude.{◌≡◌, ◌<◌, ℤ, List, Contains, length, slice_index_or}
 use Rattle.period_core.specs.declared.period.Period.{Period}
 use Rattle.period_core.specs.declared.version.VersionRow.{VersionRow}
@@ -11,8 +11,8 @@ IsAt rows item =
     (item.place < length rows)
     × ((d : VersionRow) → (slice_index_or rows item.place d).period ≡ item.period)
 
--- an item is kept at a day: its row has its period, which is not among those that go, and shares
--- the day with another
+-- an item meets a day: its row has its period, which is not among the removed ones, and shares
+-- the day with the other period
 abbrev pub IsKeptAt : List VersionRow → List Period → Period → ℤ → PlacedPeriod → Type 0
 IsKeptAt rows gone period day item =
     IsAt rows item × BothHold day period item.period × (Contains gone item.period → ⊥)

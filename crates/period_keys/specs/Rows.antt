@@ -1,4 +1,4 @@
--- A table's current version rows by key, and the groups in which they are kept.
+-- A table's current version rows by key, and the groups that hold them.
 use Rattle.std.specs.Prelude.{◌≡◌, ◌++◌, ◌∷◌, [], ℕ, Contains, IsPermutation, List, filter}
 use Rattle.std.specs.List.{AllByRecursion}
 use Rattle.std.specs.BTreeMap.{BTreeMap, IsOrdered}

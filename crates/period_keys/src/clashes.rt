@@ -80,7 +80,7 @@ pub fn index_of_current(
 }
 
 /// The least day on which two rows of a table share its key once the ended rows are gone and the
-/// added ones, whose keys these are, are there: what a look at all rows would find, if no two
+/// added ones, which have these keys, are in it: the day that a look at all rows finds, if no two
 /// shared it before. The ended ones are among the current rows.
 pub fn key_clash_after(
     alloc: Global,

@@ -27,7 +27,7 @@ use std::marker::Model;
 use std::ops::Bound;
 
 /// The current version rows of one table, by the values of its key's columns. Contracts see the
-/// positions of these columns among a row's values, and all rows, in some order.
+/// positions of the key's columns among a row's values, and all rows, in some order.
 #[derive(Drop)]
 pub struct CurrentRows {
     positions: Items<usize>,
@@ -75,8 +75,8 @@ impl CurrentRows {
         }
     }
 
-    /// The first day that the period shares with some of those of the rows of a key that are not
-    /// among those of the key that go.
+    /// The first day that the period shares with the period of a row of a key which is not
+    /// among the removed periods of that key.
     pub(crate) fn first_shared(
         &self,
         gone: &KeyedPeriods,
@@ -135,7 +135,7 @@ impl CurrentRows {
         take_from(&mut self.groups, key, values, period, from, to);
     }
 
-    /// Removes rows that are there, whose keys these are. It takes no memory.
+    /// Removes rows of the table, given with their keys. It takes no memory.
     pub fn take_all(&mut self, keys: &[Key], rows: &[VersionRow])
         requires { keys.now ≡ map (version_key self.old.positions) rows.now }
         ensures same { self.new.positions ≡ self.old.positions }
@@ -219,8 +219,8 @@ impl CurrentRows {
     }
 }
 
-// The group of a key. The last key is looked at before the others, since many rows come in the
-// order of their keys, each with a key above all that are there.
+// The group of a key. The last key is looked at first, since many rows come in the
+// order of their keys, each with a key above all earlier ones.
 fn group_at<'a>(groups: &'a Groups, key: &Key) -> Option<&'a KeyRows>
     ensures { option_copied result ≡ get_by (values_cmp key.now) groups.now }
 {

@@ -132,9 +132,9 @@ pub fn range_of_key<T: ColumnTest>(
 
 /// The range that the conditions of a select leave of the key at these positions of a table's row
 /// that is part of a combined row: its values begin at `start`, and are `width` many. Each such row
-/// of a combined row that meets all conditions has its key in the range. What `range_of_key` has by
-/// what a condition says of a position this has by what one of the conditions says of its place, or
-/// of a place of which the conditions say that its value is equal.
+/// of a combined row that meets all conditions has its key in the range. It is found as in
+/// `range_of_key`, by what one of the conditions says of a place, or of a place of which the
+/// conditions say that its value is equal.
 pub fn range_of_key_within(
     alloc: Global,
     conditions: &[Cond],
@@ -163,7 +163,7 @@ pub fn range_of_key_within(
     })
 }
 
-// The values at the first of these positions of each row that meets the condition: at those before
+// The values at the first positions of each row that meets the condition: at those before
 // the first of which it does not say `column = literal`.
 fn leading_values<T: ColumnTest>(
     alloc: Global,
@@ -204,7 +204,7 @@ fn limit_of<T: ColumnTest>(
     Limit::of(alloc, at, past)
 }
 
-// The values at the first of these positions of a table's row that is part of a combined row. They
+// The values at the first positions of a table's row that is part of a combined row. They
 // are at the positions before the first of whose place no condition says `column = literal`, nor of
 // a place of which the conditions say that its value is equal.
 fn leading_values_within(
@@ -300,7 +300,7 @@ fn value_by_one(conditions: &[Cond], place: usize, comparison: Comparison) -> Op
     None
 }
 
-// The place, and the others of which the conditions say that their values equal that at it. Each
+// The place, and the places of which the conditions say that their values equal that at it. Each
 // of them but the first needs a condition of its own, so that no more are looked at than there are.
 fn equal_places(alloc: Global, conditions: &[Cond], place: usize) -> Result<Vec<usize>, Memory>
     ensures { IfOk result (λ places. (other : ℕ)
@@ -338,7 +338,7 @@ fn push_equals(conditions: &[Cond], known: usize, places: &mut Vec<usize>) -> Re
     Ok(())
 }
 
-// Adds a place, if it is not there.
+// Adds a place that the list does not have.
 fn push_once(places: &mut Vec<usize>, place: usize) -> Result<(), Memory>
     ensures { OnOk result (
         (Contains places.old.items place × (places.new.items ≡ places.old.items))

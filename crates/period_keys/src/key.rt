@@ -13,8 +13,8 @@ use std::alloc::Global;
 use std::cmp::Ordering;
 use std::marker::Model;
 
-/// The values of a key, which contracts see as their list. A first one that is an integer is kept
-/// before the others: so the key of one integer takes no memory, and most comparisons of two keys
+/// The values of a key, which contracts see as their list. A first one that is an integer is stored
+/// before the rest: so the key of one integer takes no memory, and most comparisons of two keys
 /// read no other values.
 #[derive(Drop)]
 pub struct Key {

@@ -15,7 +15,7 @@ pub fn uncovered_are_of_days()
 {}
 
 /// If no two rows of a key shared a day before a change, they do after it exactly if an added row
-/// shares one with a row of its key that is kept, or with another added one.
+/// shares one with a row of its key that is not removed, or with another added one.
 pub fn clashes_after_change()
     ensures { ClashesAfterChange }
 {}

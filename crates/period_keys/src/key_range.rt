@@ -22,7 +22,7 @@ pub enum Limit {
 }
 
 impl Limit {
-    /// The limit that one of these values sets: the first is within itself, the second is not.
+    /// The limit that the lower or upper value sets: the first is within itself, the second is not.
     pub(crate) fn of(
         alloc: Global,
         included: Option<&Value>,

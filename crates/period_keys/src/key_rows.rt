@@ -29,7 +29,7 @@ use std::alloc::Global;
 // Up to this many rows are looked at one by one.
 const FEW: usize = 32;
 
-/// The rows of one key. If they are many, their periods are kept too, with their places,
+/// The rows of one key. If they are many, their periods are stored too, with their places,
 /// so that a look at a few days, or one row more or less, costs little however many they are.
 /// They are in a box, so that a key of few rows takes little memory.
 #[derive(Drop)]
@@ -115,8 +115,8 @@ impl KeyRows {
         place_among(rows, values, &period, from, to)
     }
 
-    /// The first day that the period shares with some of those of the rows that are not among those
-    /// of the key that go.
+    /// The first day that the period shares with the period of a row which is not among the periods
+    /// of the key that are removed.
     pub fn first_shared(&self, gone: &KeyedPeriods, key: &Key, period: &Period) -> Option<Day>
         ensures { IsLeastOf (SharesDayOfKept (map period_of self.now.rows.items)
             (periods_at gone.now key.now) period.now) result }
@@ -174,7 +174,7 @@ fn placed_at(rows: &[VersionRow], place: usize) -> PlacedPeriod
     }
 }
 
-// The placed periods of rows of which the one at a place came in, after the others. If there is
+// The placed periods of rows of which the one at a place came in last. If there is
 // no memory for it there are none.
 fn placed_with(
     alloc: Global,
@@ -277,8 +277,8 @@ fn place_among(
     None
 }
 
-// The first day that the period shares with some of those of the rows that are not among those of
-// the key that go.
+// The first day that the period shares with the period of a row which is not among the removed
+// periods of the key.
 fn first_shared_among(
     rows: &[VersionRow],
     gone: &KeyedPeriods,

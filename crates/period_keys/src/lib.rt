@@ -2,11 +2,11 @@
 //! which a child row has no parent row.
 //!
 //! - Whole lists are judged by a table's definition (`tables`, `sweep`, over each `row_key`).
-//! - A table's current rows are kept by `key` in memory (`current_rows`, of `groups` of
-//!   `key_rows`). Those of one key are found by days, if they are many: their periods are kept
-//!   beside them with their places (`placed_period`) in blocks (`block`, `period_blocks`), and
+//! - A table's current rows are in memory by `key` (`current_rows`, of `groups` of
+//! `key_rows`). Those of one key are found by days, if they are many: their periods are stored
+//! too, with their places (`placed_period`) in blocks (`block`, `period_blocks`), and
 //!   `near_rows` looks at the blocks near a period alone.
-//! - Their periods are kept too, by the columns of references (`period_indexes`,
+//! - Their periods are also in an index by the columns of references (`period_indexes`,
 //!   `keyed_periods`, `ordered_periods`). `TableIndex` has both, and follows a change all or none.
 //! - `plans` makes a change's plan of the rows of the keys in the range that its condition leaves
 //!   (`fixed_keys`, `key_range`), and of many rows of a key of those near its portion.

@@ -37,7 +37,7 @@ pub fn places_near(alloc: Global, blocks: &[Block], period: &Period) -> Result<V
     Ok(places)
 }
 
-// Adds the places of those of a block that share a day with the period.
+// Adds the places of the block's periods that share a day with the period.
 fn push_places(places: &mut Vec<usize>, block: &Block, period: &Period) -> Result<(), Memory>
     ensures kept { OnOk result ((place : ℕ)
         → Contains places.old.items place → Contains places.new.items place) }
@@ -79,8 +79,8 @@ fn push_place(places: &mut Vec<usize>, item: &PlacedPeriod, period: &Period) -> 
     }
 }
 
-/// The first day that the period shares with some of these rows whose periods are not among those
-/// of the key that go, for rows that are all in the blocks.
+/// The first day that the period shares with a row whose period is not among the removed ones
+/// of the key, for rows that are all in the blocks.
 pub fn first_shared_near(
     rows: &[VersionRow],
     blocks: &[Block],

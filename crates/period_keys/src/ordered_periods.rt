@@ -1,5 +1,5 @@
 //! Periods nearly in the order of their starts, so that a period meets its neighbours alone, and
-//! one that arrives moves few others.
+//! one that arrives moves few.
 
 ghost use Rattle.std.specs.Prelude.{◌≡◌, ◌↔◌, ◌<◌, ◌≤◌, ◌<ℤ◌, ◌≤ℤ◌, ◌+◌, ◌++◌, ◌∷◌, []};
 ghost use Rattle.std.specs.Prelude.{Contains, IfOk, IsPermutation, IsTrue, MatchOption, OnErr};
@@ -147,7 +147,7 @@ fn insertion_point(periods: &[Period], settled: usize, day: Day) -> (usize, bool
 }
 
 // Whether there are enough late periods to merge the two runs. Each settled one moves then, so the
-// late ones are at least as many as the square root of these.
+// late ones are at least as many as the square root of the settled ones.
 fn should_merge(late: usize, settled: usize) -> bool {
     late >= MOST_MOVED && late >= settled / late
 }

@@ -18,7 +18,7 @@ pub struct PeriodBlocks {
 }
 
 impl PeriodBlocks {
-    /// The periods of these rows, with their places.
+    /// The periods of rows, with their places.
     pub fn of(alloc: Global, rows: &[VersionRow]) -> Result<PeriodBlocks, Memory>
         ensures { IfOk result (ArePlaced rows.now) }
     {
@@ -39,7 +39,7 @@ impl PeriodBlocks {
         self.blocks.as_slice()
     }
 
-    /// Adds one. After an error some of the others may be gone.
+    /// Adds one. After an error some of the earlier ones may be gone.
     pub fn add(&mut self, alloc: Global, item: &PlacedPeriod) -> Result<(), Memory>
         ensures kept { OnOk result
             ((other : Placed) → HasPlaced self.old other → HasPlaced self.new other) }

@@ -27,7 +27,7 @@ use std::alloc::Global;
 
 /// The plan of a change over its table's current rows. The rows of the keys in the range that its
 /// condition leaves are looked at alone (`range_of_key`). The values of the rows that
-/// an INSERT gives are those of the plan. It is refused if such a row has a period without a
+/// an INSERT gives become the plan's values. It is refused if such a row has a period without a
 /// day, and else only out of memory.
 pub fn plan_change(alloc: Global, current: &CurrentRows, action: Action) -> Result<Plan, Refusal>
     ensures plan { IfOk result (λ plan. IsPlanOf action current.now.rows plan) }
@@ -62,7 +62,7 @@ fn range_of_action(alloc: Global, action: &Action, positions: &[usize]) -> Resul
     }
 }
 
-// The plan of an action that gives no rows, over the rows of these groups.
+// The plan of an action that gives no rows, over the rows of the groups.
 fn plan_over(alloc: Global, groups: Vec<&KeyRows>, action: &Action) -> Result<Plan, Memory>
     requires { inserted_by action.now ≡ [] }
     ensures { IfOk result (λ plan.

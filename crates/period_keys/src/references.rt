@@ -21,7 +21,7 @@ use std::alloc::Global;
 // Up to this many children are judged one by one, more by their keys.
 const FEW: usize = 8;
 
-/// The least day on which a child has no parent once added children are there, for an index of the
+/// The least day on which a child has no parent after the children are added, for an index of the
 /// parents by their keys. Children that went make no difference.
 pub fn uncovered_by_children(
     alloc: Global,
@@ -130,8 +130,8 @@ pub fn rows_uncovered(
     Ok(found)
 }
 
-/// The least day on which a child has no parent once the ended parents are gone and the added ones
-/// are there, for children that each had one before, and indexes of both tables by the columns of
+/// The least day on which a child has no parent after the ended parents are removed and new ones
+/// added, for children that each had one before, and indexes of both tables by the columns of
 /// the reference.
 pub fn uncovered_by_parents(
     alloc: Global,

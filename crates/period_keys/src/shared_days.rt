@@ -16,7 +16,7 @@ fn first_of_both(one: &Period, other: &Period) -> Option<Day>
     Some(both.start)
 }
 
-/// The first day that both periods hold, if the other is not among those of the key that go.
+/// The first day that both periods hold, if the other is not a removed period of the key.
 pub fn first_of_kept(gone: &KeyedPeriods, key: &Key, one: &Period, other: &Period) -> Option<Day>
     ensures { IsLeastOf (λ day. BothHold day one.now other.now
         × (Contains (periods_at gone.now key.now) other.now → ⊥)) result }

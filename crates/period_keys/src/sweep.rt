@@ -1,5 +1,5 @@
 //! The least day on which two rows of a whole list share a key: the keys with the rows' periods are
-//! sorted, and each is compared with the one that ends latest among those of its key before it.
+//! sorted, and each is compared with the earlier period of its key that ends latest.
 
 ghost use Rattle.std.specs.Prelude.{◌≡◌, ◌↔◌, ◌<◌, ◌≤ℤ◌, ◌⊎◌, ℕ, AllPairs, IfOk, IsTrue, List};
 ghost use Rattle.std.specs.Prelude.{length, map};

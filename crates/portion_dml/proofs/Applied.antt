@@ -89,7 +89,7 @@ module _ (moment : ℤ) (action : Action) (old new : List VersionRow) (applied :
   all_hit =
       All-permutation (λ (v : VersionRow). is_hit action v ≡ true) (filter (is_hit action) old) applied.plan.ended hit_are_ended (All-passed (is_hit action) old)
 
-  -- and none of the others is touched
+  -- none of the staying versions is touched
   none_hit : filter (is_hit action) applied.applies.stay ≡ []
   none_hit =
       let E : List VersionRow = applied.plan.ended in
@@ -102,7 +102,7 @@ module _ (moment : ℤ) (action : Action) (old new : List VersionRow) (applied :
       IsPermutation-trans E (filter (is_hit action) old) (E ++ S) (IsPermutation-sym (filter (is_hit action) old) E hit_are_ended) one in
       nothing_left S (IsPermutation-cancel E [] S (subst (λ l. IsPermutation l (E ++ S)) (sym (append-nil E)) two))
 
-  -- the versions that the change makes of the ended versions and of the others
+  -- the versions that the change makes of the ended versions and of the staying ones
   parts_after : versions_after moment action (map plain_version (applied.plan.ended ++ applied.applies.stay))
       ≡ (flat_map (closed_at moment) (map plain_version applied.plan.ended) ++ map plain_version applied.applies.stay) ++ map (begun_at moment) (map plain_row applied.plan.added)
   parts_after =

@@ -66,7 +66,7 @@ added_shown action before plan day plans =
     (λ v t. touched_shown action (version_row v) day t) plan.ended
     (subst (All (λ v. touched action v ≡ true)) (sym plans.ended) (All-passed (touched action) before)))
 
--- the values that the versions that stay show, with those of the added rows
+-- the values that the versions that stay show, and the values of the added rows
 pub staying_shown : (action : Action) (before : List VersionRow) (plan : Plan) (stay : List VersionRow) (day : ℤ) → Plans action before plan → IsPermutation before (plan.ended ++ stay)
     → IsPermutation (flat_map (version_shown day) stay ++ flat_map (shown day) (map plain_row plan.added)) (rows_after action day (values_on (map row_of before) day))
 staying_shown action before plan stay day plans taken =

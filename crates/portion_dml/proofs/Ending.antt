@@ -14,7 +14,7 @@ use Rattle.portion_dml.specs.Plans.{AreLeftCurrent}
 use Rattle.temporal_model.proofs.Members.{Contains-here, rest_of}
 use Rattle.temporal_model.proofs.Rearranged.{IsPermutation-uncons}
 
--- after some of the versions: those that were kept so far, and those that will be, are those that stay
+-- after some of the versions: those that stayed so far, and those that will, are all that stay
 pub record Passed (current : List VersionRow) (index : ℕ) (left : List VersionRow) (rows : List PeriodRow) (stay : List VersionRow) : Type 0 where
   pub kept : List VersionRow
   pub later : List VersionRow
@@ -39,7 +39,7 @@ module _ (current : List VersionRow) (index : ℕ) (left : List VersionRow) (row
   front : IsPermutation (version ∷ drop (index + 1) current) (left ++ passed.later)
   front = subst (λ l. IsPermutation l (left ++ passed.later)) here passed.ahead
 
-  -- the version ends
+  -- the next version ends
   pub passed_ended : (fewer : List VersionRow) → IsPermutation left (version ∷ fewer) → Passed current (index + 1) fewer rows stay
   passed_ended fewer taken = record {
     kept = passed.kept;
@@ -51,7 +51,7 @@ module _ (current : List VersionRow) (index : ℕ) (left : List VersionRow) (row
     whole = passed.whole;
   }
 
-  -- the version stays
+  -- the next version stays
   pub passed_kept : (Contains left version → ⊥) → Passed current (index + 1) left (rows ++ row_of version ∷ []) stay
   passed_kept absent =
       let there : Contains passed.later version =
@@ -76,7 +76,7 @@ module _ (current : List VersionRow) (index : ℕ) (left : List VersionRow) (row
             (IsPermutation-append_right passed.kept passed.later (version ∷ rest) moved));
       }
 
--- at the end the rows are those of the versions that stay, and those that are added
+-- at the end the rows are the rows of the versions that stay, and the added ones
 pub left_in_the_end : (current : List VersionRow) (plan : Plan) (index : ℕ) (left : List VersionRow) (first rows : List PeriodRow) (stay : List VersionRow) → length current ≤ index
     → IsPermutation current (plan.ended ++ stay) → Passed current index left first stay → rows ≡ first ++ plan.added → AreLeftCurrent current plan rows
 left_in_the_end current plan index left first rows stay past taken passed e =

@@ -71,6 +71,6 @@ part_within values p other left days =
       λ h. let l = max_from day p.start other.start h.0 in let k = min_below day p.end other.end h.1 in (days day).1 (day_in p day l.0 k.0, day_in other day l.1 k.1),
     ))
 
--- the whole of it
+-- the part of a row over its whole period is the row
 pub part_whole : (values : List Value) (p : Period) → row_over values (Some p) ≡ part values p.start p.end
 part_whole values p = by_days values (Some p) p.start p.end (λ day. (λ h. (days_from p day h, days_to p day h), λ h. day_in p day h.0 h.1))

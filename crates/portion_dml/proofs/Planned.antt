@@ -29,7 +29,7 @@ or_true : (b : Bool) → (b || true) ≡ true
 or_true true = refl
 or_true false = refl
 
--- one of the rows is empty
+-- an INSERT of rows one of which is empty has an empty row
 pub gives_empty : (before after : List InsertedRow) (row : InsertedRow) (given : List InsertedRow) → given ≡ before ++ row ∷ after → is_empty_row row ≡ true → has_empty_row (Insert given) ≡ true
 gives_empty before after row given split none =
     ap (list_any is_empty_row) split ∙ list_any-append is_empty_row before (row ∷ after)

@@ -49,7 +49,7 @@ pub record EndsRows (current : List VersionRow) (plan : Plan) : Type 0 where
   pub stay : List VersionRow
   pub taken : IsPermutation current (plan.ended ++ stay)
 
--- the current rows after a plan: those of the versions that it does not end, and those that it adds
+-- the current rows after a plan: the rows of the versions that it does not end, and those it adds
 pub record AreLeftCurrent (current : List VersionRow) (plan : Plan) (rows : List PeriodRow)
     : Type 0 where
   pub stay : List VersionRow

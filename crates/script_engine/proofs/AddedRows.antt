@@ -111,7 +111,7 @@ module _ (d : TableDef) (distinct : has_distinct_names d ≡ true) where
       let long = or_parts (is_flawed_set TooLong d w) (list_any (λ (x : written.Assignment). is_flawed_set TooLong d x) ws) lengths in
       (fits_set d distinct w a first kind.0 long.0, sets_are ws assignments later kind.1 long.1)
 
-  -- of an UPDATE without a flaw no assignment has it
+  -- an UPDATE without a flaw has no assignment with it
   unflawed_sets : (flaw : Flaw) (u : Update) → is_flawed_update flaw u d ≡ false → list_any (λ (w : written.Assignment). is_flawed_set flaw d w) u.assignments ≡ false
   unfolding is_flawed_update
   unflawed_sets flaw u none =

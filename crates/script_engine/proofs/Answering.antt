@@ -23,7 +23,7 @@ use Rattle.script_engine.specs.engine.Audits.{HaveSeenRows}
 
 -- ---- lists
 
--- facts of two lists and of two others, place by place, are facts of both together
+-- facts of two lists and of two more, place by place, are facts of both together
 pub each_append : (history : History) (before references : List QueryReference) (lists others : List (List PeriodRow)) → EachSees history before lists → EachSees history references others → EachSees history (before ++ references) (lists ++ others)
 each_append history [] references [] others each more = more
 each_append history [] references (rows ∷ lists) others each more = absurd each
@@ -34,7 +34,7 @@ pub each_more : (history : History) (before : List QueryReference) (lists : List
     EachSees history (before ++ reference ∷ []) (lists ++ rows ∷ [])
 each_more history before lists reference rows each sees = each_append history before (reference ∷ []) lists (rows ∷ []) each (sees, tt)
 
--- the first list after others is in the place of their number
+-- the first list after some lists is in the place of their number
 pub at_length : (before : List (List PeriodRow)) (rows : List PeriodRow) (lists : List (List PeriodRow)) → slice_index_or (before ++ rows ∷ lists) (length before) [] ≡ rows
 at_length [] rows lists = refl
 at_length (first ∷ before) rows lists = at_length before rows lists
@@ -57,7 +57,7 @@ in_its_place history (first ∷ references) before (rows ∷ lists) placed each 
           (in_its_place history references (before ++ rows ∷ []) lists later each.1 reference more)
     ]
 
--- so each reference of a query in whose text they count up has the list of the rows that it sees
+-- each reference of a query in whose text they count up has the list of the rows that it sees
 pub have_seen : (history : History) (query : Query) (tables : List (List PeriodRow)) → are_in_place 0 (references_of query) ≡ true → EachSees history (references_of query) tables → HaveSeenRows history query tables
 have_seen history query tables placed each = in_its_place history (references_of query) [] tables placed each
 
@@ -89,7 +89,7 @@ module _ (Sets Others : ℤ → List Value → Type 0) (same : (day : ℤ) (valu
   each_along (row ∷ rows) [] each = absurd each
   each_along (row ∷ rows) (witness ∷ witnesses) each = (witness_along row witness each.0, each_along rows witnesses each.1)
 
-  -- an answer by sets is one by any others that are the same
+  -- an answer by sets is an answer by equal sets
   pub answer_along : (answer : Answer) → IsSequencedAnswer Sets answer → IsSequencedAnswer Others answer
   answer_along answer right = record {
     daily = λ day values. (λ h. (same day values).0 ((right.daily day values).0 h), λ h. (right.daily day values).1 ((same day values).1 h));

@@ -1,4 +1,4 @@
--- The number of days that an audit gives is that of the rows that the query's references see: it is the same in each audit.
+-- Each audit of an answer gives one number of days: the number of the rows that the query's references see.
 use Rattle.std.proofs.Common.{◌≡◌, ◌∷◌, ◌<ℤ◌, ◌∙◌, ℤ, List, [], ap, arith, inl, inr, length, map, refl, suc, subst, sym}
 use Rattle.std.specs.List.{AllPairs, Contains}
 use Rattle.std.specs.List.Sorted.{IsPermutation}
@@ -90,7 +90,7 @@ theirs tables (first ∷ references) reference c =
       | inr more ↦ Contains-there (rows_for tables first) (map (rows_for tables) references) (rows_for tables reference) (theirs tables references reference more)
     ]
 
--- so the change days are the same
+-- the change days of two audits are the same
 module _ (history : History) (query : Query) (answer : List PeriodRow) where
   change_along : (tables others : List (List PeriodRow)) → HaveSeenRows history query tables → HaveSeenRows history query others → (day : ℤ) → IsChangeDay (answer ∷ seen_lists query tables) day → IsChangeDay (answer ∷ seen_lists query others) day
   change_along tables others seen also day (inl first) = inl first

@@ -30,7 +30,7 @@ witness_at sets (first ∷ rows) (witness ∷ witnesses) each zero row is =
     ap Some (each.0.days ∙ ap witness_of (same_Some first row is))
 witness_at sets (first ∷ rows) (witness ∷ witnesses) each (suc place) row is = witness_at sets rows witnesses each.1 place row is
 
--- so each row of a certified list is sound
+-- each row of a certified list is sound
 sound_at : (sets : ℤ → List Value → Type 0) (rows : List PeriodRow) (witnesses : List Witness) → IsCertified rows → WitnessEachRow sets rows witnesses → (place : ℕ) (row : PeriodRow) → slice_get rows place ≡ Some row →
     IsSound rows witnesses place row
 sound_at sets rows witnesses is_certified each place row is =
@@ -47,7 +47,7 @@ sound_at sets rows witnesses is_certified each place row is =
       };
     }
 
--- so none is the first fault, and no witness is spare
+-- no row is the first fault, and no witness is spare
 no_fault : (sets : ℤ → List Value → Type 0) (rows : List PeriodRow) (witnesses : List Witness) → IsCertified rows → WitnessEachRow sets rows witnesses → (number : ℕ) → IsFirstFault rows witnesses number → ⊥
 no_fault sets rows witnesses is_certified each number fault =
     elim fault.fault [

@@ -19,7 +19,7 @@ use Rattle.version_store.specs.StoreState.{IsStoreRefusal}
 use Rattle.script_engine.specs.engine.Runs.{AppliesOver, ChangeApplies, IsConstraintRefusal, MayRefuse, MayRefuseOver, NoneBeforeStore}
 use Rattle.script_engine.proofs.Refused.{are_at_most, days-planned, holds_cases, may_answer-before, may_answer-empty}
 
--- the numbers of a change's conditions are at most that of an empty period
+-- the numbers of a change's conditions are at most the number of an empty period
 pub change_numbers : (tables : List TableDef) (s : Statement) → are_at_most 41 (change_conditions tables s) ≡ true
 change_numbers tables (statement.insert i) = refl
 change_numbers tables (statement.update u) = refl
@@ -34,14 +34,14 @@ empty_form : (tables : List TableDef) (s : Statement) → empty_period tables s 
 empty_form tables (statement.insert i) = refl
 empty_form tables _ = refl
 
--- the conditions of a change, with that of an empty period
+-- the conditions of a change, and the condition of an empty period
 abbrev Applies : List TableDef → Statement → Refusal → Type 0
 Applies tables s = Holds (change_conditions tables s ++ (EmptyPeriod, gives_empty tables s) ∷ [])
 
 formed : (P : (Refusal → Type 0) → Type 0) (tables : List TableDef) (s : Statement) → P (Applies tables s) → P (ChangeApplies tables s)
 formed P tables s p = subst (λ (j : RefusalCondition). P (Holds (change_conditions tables s ++ j ∷ []))) (sym (empty_form tables s)) p
 
--- if no other condition holds, one that does is that of an empty period
+-- if no other condition holds, one that does is the condition of an empty period
 only_empty : (tables : List TableDef) (s : Statement) → NoneApplies (Holds (change_conditions tables s)) → (refusal : Refusal) → Applies tables s refusal → (EmptyPeriod ≡ refusal) × (gives_empty tables s ≡ true)
 only_empty tables s sound refusal h =
     elim (holds_cases (change_conditions tables s) ((EmptyPeriod, gives_empty tables s) ∷ []) refusal h) [

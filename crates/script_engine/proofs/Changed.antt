@@ -61,7 +61,7 @@ accepts_change history new (statement.update u) outcome is changes = changes
 accepts_change history new (statement.delete d) outcome is changes = changes
 accepts_change history new _ outcome is changes = absurd is
 
--- the table of a change is there
+-- the table of a change exists
 pub resolved_table : (tables : List TableDef) (s : Statement) (change : Change) → ResolvesChange tables s change → (d : TableDef) × (table_of tables change.table ≡ Some d)
 resolved_table tables (statement.insert i) change resolved = (resolved.definition, resolved.table)
 resolved_table tables (statement.update u) change resolved = (resolved.definition, resolved.table)
@@ -76,7 +76,7 @@ all_of_second P (x ∷ xs) ys all = all_of_second P xs ys all.1
 -- ---- steps
 
 module _ {S : Type 0} (g : Ghosts S) (history : History) (old : EngineState S) (s : Statement) (is : IsChange s) (kept : EngineRepresents g history old) where
-  -- the tables in memory are those of the history
+  -- the tables in memory are the history's
   of_history : (P : (Refusal → Type 0) → Type 0) → P (AppliesOver old.catalog.tables (clock_of history) s) → P (StatementApplies history s)
   of_history P p = subst (λ (tables : List TableDef). P (AppliesOver tables (clock_of history) s)) (tables_of g history old kept) p
 
@@ -114,7 +114,7 @@ module _ {S : Type 0} (g : Ghosts S) (history : History) (old : EngineState S) (
     pub none_applies : (has_empty_row change.action ≡ true → ⊥) → NoneApplies (StatementApplies history s)
     none_applies days = of_history NoneApplies (none_without_empty old.catalog.tables (clock_of history) s is change.action sound empty days)
 
-    -- the change is not lawful
+    -- a change that is not lawful is refused by its fault in the history
     pub unlawful_in : (refusal : Refusal) → ResolvesChange old.catalog.tables s change → (has_empty_row change.action ≡ true → ⊥) → IsFault old.catalog.tables (last_state history) change refusal → IsUnlawful history s refusal
     unlawful_in refusal resolved days fault =
         let same = tables_of g history old kept in record {
@@ -152,7 +152,7 @@ module _ {S : Type 0} (g : Ghosts S) (history : History) (old : EngineState S) (
           (current_planned history kept.contents change plan kept.said over apart)
           (λ other off. other_tables change.table other kept.contents.clock plan.ended plan.added kept.contents off)
 
-      -- and the versions that have ended
+      -- the versions that have ended after the change are the store's
       ended_after : (lists : List (List PackedVersion)) → HaveDistinctKeys kept.contents.versions → HaveClosed change.table (closed_at old.clock plan.ended) old.ended lists → HaveEnded after lists
       ended_after lists apart closed =
           let c = kept.contents in
@@ -206,6 +206,6 @@ module _ {S : Type 0} (g : Ghosts S) (history : History) (old : EngineState S) (
             },
           )
 
-      -- or the database fails
+      -- a failure of the database leaves the history as it was
       pub unchanged_step : (new : EngineState S) (refusal : Refusal) → HasContents g new kept.contents → IsStoreRefusal refusal → StepsTo g history s (Err refusal) new
       unchanged_step new refusal has failure = failed_step g history old new s refusal kept has failure none_holds

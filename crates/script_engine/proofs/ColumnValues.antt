@@ -58,10 +58,10 @@ second_fails : (a b : Bool) → (a && b) ≡ false → a ≡ true → b ≡ fals
 second_fails true b e is = e
 second_fails false b e is = absurd (false≢true is)
 
--- ---- by name
+-- ---- columns by name
 
 module _ (t : TableDef) (distinct : has_distinct_names t ≡ true) where
-  -- a column's name stands for its kind
+  -- a column is found by its name, with its kind
   its_kind : (place : ℕ) (x : Column) → place < length t.columns → x ≡ get_or t.columns place x → def_kind t x.name ≡ Some (kind_of_column x.kind)
   unfolding def_kind find_among place_among
   its_kind place x inside item =
@@ -172,7 +172,7 @@ module _ (t : TableDef) (distinct : has_distinct_names t ≡ true) where
           let fits : is_of_column c.1.kind w.value ≡ true = fits_named c.0 c.1 w.column w.value (all-slice_get IsThere (value_columns t) a.position c there are_there) named kinds lengths in
           subst (λ (v : Value). is_of_column c.1.kind v ≡ true) (ap (λ (b : Assignment). b.value) same) fits
 
--- values with one set
+-- values of columns, one of them set anew, are values of the columns
 set_one : (columns : List (ℕ × Column)) (values : List Value) (n : ℕ) (v : Value) → are_of_columns columns values ≡ true → ((c : ℕ × Column) → slice_get columns n ≡ Some c → is_of_column c.1.kind v ≡ true) → are_of_columns columns (set values n v) ≡ true
 set_one [] [] n v are fits = refl
 set_one [] (w ∷ values) n v are fits = absurd (false≢true are)
@@ -185,7 +185,7 @@ set_one (c ∷ columns) (w ∷ values) (suc n) v are fits =
 abbrev set_in : List Value → Assignment → List Value
 set_in values a = set values a.position a.value
 
--- and with each of these
+-- each of the assignments sets a value
 pub set_each : (columns : List (ℕ × Column)) (assignments : List Assignment) (values : List Value) → AllByRecursion (λ (a : Assignment). (c : ℕ × Column) → slice_get columns a.position ≡ Some c → is_of_column c.1.kind a.value ≡ true) assignments → are_of_columns columns values ≡ true →
     are_of_columns columns (fold set_in values assignments) ≡ true
 set_each columns [] values fits are = are

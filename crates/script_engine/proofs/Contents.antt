@@ -224,7 +224,7 @@ module _ (moment : ℤ) (action : Action) (plan : Plan) (rows : List VersionRow)
         applies = record { stay = S; taken = taken; made = IsPermutation-same _ _ made };
       })
 
-  -- and it is what the store then has of the table
+  -- the rows so planned are what the store then has of the table
   module _ (table : ℕ) (versions : List TableVersion) (all : IsPermutation (of_table table versions) (map (version_in table) rows)) (apart : HaveDistinctKeys versions) where
     abbrev left : List TableVersion → List TableVersion
     left = flat_map (remains_of table moment E)
@@ -281,7 +281,7 @@ module _ (history : History) (c : Contents) (change : Change) (plan : Plan) (sai
   abbrev after : Contents
   after = planned change.table c.clock plan.ended plan.added c
 
-  -- the count of the plan is that of the history
+  -- the count of the plan is the count of the history
   pub count_said : count_of change.action (versions_of history change.table) ≡ planned_count change.action plan
   count_said =
       let holds = said.versions change.table in

@@ -54,7 +54,7 @@ none_current moment before rows =
     one v true = tt
     one v false = (not_forever moment before, tt)
 
--- one that begins is
+-- each version that begins is current
 pub all_begun : (moment : ℤ) (added : List PeriodRow) → AllByRecursion (λ (v : VersionRow). is_current v ≡ true) (map (begun moment) added)
 all_begun moment added = all-map (λ (v : VersionRow). is_current v ≡ true) (begun moment) added (all_of (λ (r : PeriodRow). is_current (begun moment r) ≡ true) (λ r. int_same forever) added)
 
@@ -65,11 +65,11 @@ module _ (history : History) (c : Contents) (change : Change) (plan : Plan) (sai
   abbrev pub S : List VersionRow
   S = stay_in change.action rows
 
-  -- the current versions that stay
+  -- the current versions that the plan does not end
   abbrev pub staying : List VersionRow
   staying = current S
 
-  -- the ended ones were current
+  -- the versions that the plan ends were current
   pub ended_current : AllByRecursion (λ (v : VersionRow). is_current v ≡ true) plan.ended
   ended_current =
       subst (AllByRecursion (λ (v : VersionRow). is_current v ≡ true)) (sym over.plans.ended)

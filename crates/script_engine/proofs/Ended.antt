@@ -133,7 +133,7 @@ left_good tables table clock ended is v good = go (is_ended table ended v) (int_
         (record { definition = good.definition; table = good.table; values = good.values; held = good.held; days = good.days; moments = moments.0 }, tt)
     go false e moments = (good, tt)
 
--- so after a plan at the clock each version is good, if the rows that it adds are of its table
+-- after a plan at the clock each version is good, if the rows that it adds are of its table
 pub good_planned : (c : Contents) (table : ℕ) (d : TableDef) (ended : List VersionRow) (added : List PeriodRow) → table_of c.tables table ≡ Some d → IsClock Microseconds c.clock → AllByRecursion (IsGoodVersion c.tables c.clock) c.versions →
     AllByRecursion (λ (r : PeriodRow). are_row_values d r.values ≡ true) added → AllByRecursion (λ (r : PeriodRow). All IsColumnValue r.values) added → AllByRecursion (IsGoodVersion c.tables c.clock) (planned table c.clock ended added c).versions
 good_planned c table d ended added there is good fits held =

@@ -1,4 +1,4 @@
--- The versions of a table that have ended, in memory: they go on being those of the store.
+-- The versions of a table that have ended, in memory, remain the ended versions of the store.
 use Rattle.std.proofs.Common.{◌≡◌, ◌≤ℤ◌, ◌++◌, ◌∷◌, ◌∙◌, ℕ, ℤ, zero, suc, Bool, true, false, List, [], Option, None, Some, Result, Ok, Err, append-nil, get_or, map, nat_eq, not, refl, set, sym, ap, ap₂, subst, arith}
 use Rattle.std.specs.List.{filter, slice_get}
 use Rattle.std.specs.List.Sorted.{IsPermutation}
@@ -191,6 +191,6 @@ pub ended_later : {X : Type 0} (result : Result X Refusal) (old new moment : ℤ
 ended_later (Ok x) old new moment lists moved kept le all = subst (λ (m : ℤ). AllEndedBy m lists) (sym moved) (ended_by old moment le lists all)
 ended_later (Err e) old new moment lists moved kept le all = subst (λ (m : ℤ). AllEndedBy m lists) (sym kept) all
 
--- a list more, without versions
+-- one table more, without ended versions
 pub none_ended : (moment : ℤ) (lists : List (List PackedVersion)) → AllEndedBy moment lists → AllEndedBy moment (lists ++ [] ∷ [])
 none_ended moment lists all = All-push (AreEndedBy moment) lists [] all (All-nil (λ (v : PackedVersion). v.to ≤ℤ moment))

@@ -40,7 +40,7 @@ all_in_time clock (v ∷ rows) are = go (int_eq v.to forever) refl (all_in_time 
         by_end (inl never) = absurd (grind (arith, ints, ended, never))
         by_end (inr past) = past
 
--- so none of a table's that is read of a good store ended later
+-- no version of a table that is read of a good store ended later
 pub none_late : (c : Contents) (clock : ℤ) (number : ℕ) (rows : List VersionRow) → AreGood NoExtraCondition c → c.clock ≡ clock → IsPermutation (of_table number c.versions) (map (version_in number) rows) → SomeEndedAfter clock (filter has_ended rows) → ⊥
 none_late c clock number rows good is all (version, among, after) =
     let recorded = recursion_from_All (IsRecorded c.clock) rows (recorded_rows c number rows (recorded_of c good) all) in

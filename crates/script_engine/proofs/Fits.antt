@@ -112,7 +112,7 @@ module _ (history : History) (c : Contents) (said : AreOfHistory history c) (ref
       (passes (λ (v : TableVersion). v.table == reference.table) c.versions)
       (all-filter (IsGoodVersion c.tables c.clock) (λ (v : TableVersion). v.table == reference.table) c.versions said.good.versions)
 
-  -- the versions that the history leaves of its table
+  -- the versions that the history leaves of the table fit its columns
   left_fit : AllByRecursion (λ (v : PlainVersion). Fit v.values) (versions_of history reference.table)
   left_fit =
       let holds = said.versions reference.table in
@@ -133,7 +133,7 @@ pub all_are : {A : Type 0} (p : A → Bool) (xs : List A) → AllByRecursion (λ
 all_are p [] all = refl
 all_are p (x ∷ xs) all = rw all.0 (all_are p xs all.1)
 
--- each is among them
+-- a property of all elements of a list holds at each place
 pub each_among : {A : Type 0} (P : A → Type 0) (xs : List A) → ((x : A) → Contains xs x → P x) → AllByRecursion P xs
 each_among P [] each = tt
 each_among P (x ∷ xs) each = (each x (zero, omega arith, refl), each_among P xs (λ y among. each y (suc among.0, (let low = among.1 in omega (arith, low)), among.2)))

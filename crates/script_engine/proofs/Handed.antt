@@ -14,11 +14,11 @@ module _ {S : Type 0} (g : Ghosts S) (history : History) (engine : EngineState S
   pub has_still : HasContents g engine kept.contents
   has_still = record { stored = kept.stored; current = kept.current; ended = kept.ended }
 
-  -- and so has an engine that is the same
+  -- an engine that is the same has the same contents
   pub has_the_same : (other : EngineState S) → other ≡ engine → HasContents g other kept.contents
   has_the_same other same = subst (λ (e : EngineState S). HasContents g e kept.contents) (sym same) has_still
 
-  -- the versions in memory are those of the history
+  -- the versions in memory are the history's
   pub handed_rows : (tables : List RowsByKey) (ended : List (List PackedVersion)) → tables ≡ engine.tables → ended ≡ engine.ended → RowsRepresent history tables ended
   handed_rows tables ended same closed =
       let all : RowsRepresent history engine.tables engine.ended = record { contents = kept.contents; said = kept.said; current = kept.current; ended = kept.ended } in

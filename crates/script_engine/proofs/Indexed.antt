@@ -69,7 +69,7 @@ follow_created catalog d old new key was lawful rows indexed = record {
   indexed = indexed;
 }
 
--- the tables before the last
+-- an index of one of the tables before the last is in the list without the last
 earlier_index : (before : List TableRows) (last : TableRows) (number : ℕ) (positions : List ℕ) → number ≤ length before → IsIndexedBy (before ++ last ∷ []) number positions → IsIndexedBy before number positions
 earlier_index before last zero positions inside (table, is, has) = cc
 earlier_index before last (suc place) positions inside (table, is, has) =
@@ -124,7 +124,7 @@ follow_popped catalog last old new count counted popped was =
     first_of [] end = refl
     first_of (t ∷ before) end = ap (λ (l : List TableRows). t ∷ l) (first_of before end)
 
--- equal rows with more indexes
+-- tables with more indexes have the same rows
 pub same_rows_of : (old new : List TableRows) → HaveMoreIndexes old new → map rows_by_key new ≡ map rows_by_key old
 same_rows_of old new more = more.same
 

@@ -75,7 +75,7 @@ distinct_along xs ys h =
 
 -- ---- ended rows
 
--- each ended row is one
+-- each ended row is found to be ended
 pub are_ended : (table : ℕ) (ended : List VersionRow) → All (λ (v : VersionRow). is_ended table ended (version_in table v) ≡ true) ended
 are_ended table ended place v inside =
     list_any_at (λ (row : VersionRow). same_version (version_in table row) (version_in table (get_or ended place v))) ended place v inside
@@ -89,7 +89,7 @@ neither : (a b : Bool) → a ≡ false → b ≡ false → (a || b) ≡ false
 neither true b e f = e
 neither false b e f = f
 
--- none of the others is
+-- none of the remaining versions has an ended one's key
 pub rest_stays : (table : ℕ) (ended stay : List VersionRow) → HaveDistinctKeys (map (version_in table) (ended ++ stay)) → AllByRecursion (λ (v : VersionRow). is_ended table ended (version_in table v) ≡ false) stay
 rest_stays table [] stay apart = all_of (λ (v : VersionRow). is_ended table [] (version_in table v) ≡ false) (λ v. refl) stay
 rest_stays table (row ∷ ended) stay apart =

@@ -196,13 +196,13 @@ parents_before catalog place child reference lawful is there =
     let size : length (take place catalog) ≡ place = length-take-le place catalog (omega (arith, inside)) in
     omega (arith, before, size)
 
--- one more
+-- lawful definitions, and one more
 pub lawful_more : (before catalog : List TableDef) (d : TableDef) → AreLawful before catalog → IsLawful (before ++ catalog) d → AreLawful before (catalog ++ d ∷ [])
 lawful_more before [] d lawful is = (subst (λ (tables : List TableDef). IsLawful tables d) (append-nil before) is, tt)
 lawful_more before (x ∷ catalog) d lawful is =
     (lawful.0, lawful_more (before ++ x ∷ []) catalog d lawful.1 (subst (λ (tables : List TableDef). IsLawful tables d) (sym (append_assoc before (x ∷ []) catalog)) is))
 
--- one less
+-- lawful definitions, without the last
 pub lawful_less : (before catalog : List TableDef) (d : TableDef) → AreLawful before (catalog ++ d ∷ []) → AreLawful before catalog
 lawful_less before [] d lawful = tt
 lawful_less before (x ∷ catalog) d lawful = (lawful.0, lawful_less (before ++ x ∷ []) catalog d lawful.1)
@@ -256,7 +256,7 @@ lawful_with_table catalog d state ordered none lawful = record {
 pub lawful_same : (catalog : List TableDef) (state other : State) → ((table : ℕ) (day : ℤ) → other table day ≡ state table day) → IsLawfulState catalog state → IsLawfulState catalog other
 lawful_same catalog state other same lawful = lawful_along catalog state other (λ table day. IsPermutation-same (state table day) (other table day) (sym (same table day))) lawful
 
--- a lawful change
+-- a lawful change leaves a lawful state
 pub lawful_changed : (history : History) (clock : ℤ) (change : Change) → clock <ℤ forever → IsLawfulState (catalog_of history) (last_state history) → IsLawfulChange (catalog_of history) (last_state history) change →
     IsLawfulState (catalog_of history) (last_state (with_event history (Changed clock change)))
 lawful_changed history clock change before lawful allowed =

@@ -1,4 +1,4 @@
--- For worked rows: a change is lawful where at most one row of its table is there on a day, and no table has a reference.
+-- For worked rows: a change is lawful if its table has at most one row on a day, and no table has a reference.
 use Rattle.std.proofs.Common.{◌≡◌, ◌∷◌, ◌+◌, ◌≤◌, ◌∙◌, ℕ, suc, ℤ, Bool, true, false, List, [], Some, cond, length, length-append, map, not, refl, sym, ap, subst, arith}
 use Rattle.std.specs.List.{Contains, enumerate_from, filter}
 use Rattle.std.proofs.lemmas.List.{length-map}

@@ -25,13 +25,13 @@ left-created history definition table rows left = left_same history (Created def
 pub left-asked : (history : History) (table : ℕ) (rows : List VersionRow) → AreVersionsOf history table rows → AreVersionsOf (with_event history Queried) table rows
 left-asked history table rows left = left_same history Queried table rows refl left
 
--- a change makes its versions of those of its table
+-- a change makes its versions of the versions of its table
 pub left-changed_there : (history : History) (moment : ℤ) (change : Change) (table : ℕ) (rows more : List VersionRow) → AreVersionsOf history table rows → nat_eq table change.table ≡ true → AppliesAction moment change.action rows more →
     AreVersionsOf (with_event history (Changed moment change)) table more
 left-changed_there history moment change table rows more left here makes =
     left_more history moment change table rows more left (subst (λ (b : Bool). AppliesActionIf b moment change.action rows more) (sym here) makes)
 
--- and leaves those of the others
+-- a change leaves the versions of each other table
 pub left-changed_elsewhere : (history : History) (moment : ℤ) (change : Change) (table : ℕ) (rows : List VersionRow) → AreVersionsOf history table rows → nat_eq table change.table ≡ false →
     AreVersionsOf (with_event history (Changed moment change)) table rows
 left-changed_elsewhere history moment change table rows left off =

@@ -1,4 +1,4 @@
--- The results that listeners are handed, and those of the first pieces.
+-- The results that listeners are handed, and the results of the first pieces.
 use Rattle.std.proofs.Common.{◌≡◌, ◌≤◌, ◌<◌, ◌+◌, ◌++◌, ◌∷◌, ◌∙◌, ℕ, Bool, List, [], length, map, take, drop, false, true, ap, arith, inl, inr, refl, subst, sym, append_assoc, vec_capacity, vec_len}
 use Rattle.std.proofs.lemmas.List.{append-nil, map-append, take-append-drop}
 use Rattle.sql_front.specs.Pieces.{spanned}
@@ -13,7 +13,7 @@ heard_last : {L K : Type 0} (Hears : L → ℕ → K → Bool → L → Type 0) 
 heard_last Hears n old result false new heard = inl (heard, refl, refl)
 heard_last Hears n old result true new heard = inr (new, heard, (refl, refl))
 
--- one result more
+-- a listener hears one result more
 pub hears_more : {L K : Type 0} (Hears : L → ℕ → K → Bool → L → Type 0) (n at : ℕ) (old : L) (results : List K) (middle : L) (result : K) (goes_on : Bool) (new : L) →
     n + length results ≡ at → ReceivesAll Hears n old results true middle → Hears middle at result goes_on new → ReceivesAll Hears n old (results ++ result ∷ []) goes_on new
 hears_more Hears n at old [] middle result goes_on new counted (same, on) heard =
@@ -42,7 +42,7 @@ module _ {K : Type 0} where
       (items ∙ ap (λ xs. xs ++ results) added ∙ append_assoc old.kept.items (result ∷ []) results, whole)
 
 module _ {H R : Type 0} (IsStep : H → List Lexeme → R → H → Type 0) where
-  -- the results of the first pieces are those of a front of all
+  -- the results of the first pieces begin the results of all
   pub front_of : (opening : H) (tokens : List Lexeme) (spans : List Span) (i : ℕ) (results : List R) (last : H) → StepPieces IsStep opening (map (spanned tokens) (take i spans)) results last →
       StepFront IsStep opening (map (spanned tokens) spans) results false last
   front_of opening tokens spans i results last run = record {

@@ -118,7 +118,7 @@ module _ (history : History) (c : Contents) (reference : QueryReference) (said :
       } in
       sees_rows history c reference (map row_of shown_rows) said are
 
-  -- values that the reference sees are as many as its value columns
+  -- rows that the reference sees have as many values as its table has value columns
   pub sees_width : (width : ℕ) → IsWidth c.tables reference.table width → SeesWidth history reference width
   sees_width width wide day values sees =
       let (row, among, same, on) = held (map row_of shown_rows) day values ((shown_seen.daily day values).1 sees) in
@@ -126,14 +126,14 @@ module _ (history : History) (c : Contents) (reference : QueryReference) (said :
       let whole : Contains held_rows version = (from_filter (λ (v : VersionRow). window_sees reference.window v.from v.to) held_rows version its).0 in
       sym (ap (λ (r : PeriodRow). length r.values) made ∙ ap length same) ∙ table_width c reference.table width said.good wide held_rows (said.versions reference.table).all version whole
 
-  -- and of their kinds
+  -- rows that the reference sees have values of its columns' kinds
   sees_kinds : IsKnown c.tables reference → (day : ℤ) (values : List Value) → VisibleInHistory history day reference values → has_kinds reference.kinds values ≡ true
   sees_kinds known day values sees =
       let (row, among, same, on) = held (map row_of shown_rows) day values ((shown_seen.daily day values).1 sees) in
       let fit = rows_fit history c said reference known (map row_of shown_rows) shown_seen in
       subst (λ (v : List Value). has_kinds reference.kinds v ≡ true) same (each_in (λ (r : PeriodRow). has_kinds reference.kinds r.values ≡ true) (map row_of shown_rows) fit row among)
 
-  -- so are those of the rows that are needed of these
+  -- the needed rows of such rows have these kinds too
   pub needed_kinds : (conjuncts : Conditions) (start : ℕ) (rows : List PeriodRow) → IsKnown c.tables reference → IsNeeded history conjuncts start reference rows → list_all (λ (row : PeriodRow). has_kinds reference.kinds row.values) rows ≡ true
   needed_kinds conjuncts start rows known needed =
       all_are (λ (row : PeriodRow). has_kinds reference.kinds row.values) rows
@@ -148,7 +148,7 @@ pruned_along conjuncts start A B rows same pruned = record {
   complete = λ day first values rest e h met. pruned.complete day first values rest e ((same day values).1 h) met;
 }
 
--- of the current rows in memory, those that are not ruled out
+-- of the current rows in memory, the rows that are not ruled out are needed
 pub current_needed : (history : History) (c : Contents) (tables : List RowsByKey) (conjuncts : Conditions) (start : ℕ) (reference : QueryReference) (rows : List PeriodRow) → AreOfHistory history c → HaveCurrentRows c tables → reference.window ≡ Now →
     IsPruned conjuncts start (InSnapshot (map row_of (rows_in tables reference.table))) rows → IsNeeded history conjuncts start reference rows
 current_needed history c tables conjuncts start reference rows said current now pruned =
@@ -182,7 +182,7 @@ module _ (conjuncts : Conditions) (start width : ℕ) (positions : List ℕ) (ra
 
 -- ---- lists in their places
 
--- the lists in the places of these references
+-- the lists in the places of a list of references
 abbrev NeededIn : List (List PeriodRow) → History → Conditions → ℕ → List QueryReference → Type 0
 NeededIn tables history conjuncts start [] = Unit {0}
 NeededIn tables history conjuncts start (reference ∷ references) =
@@ -256,13 +256,13 @@ query_placed history (both operator left right) before lists behind in_place (fi
 -- ---- the answer of a query over needed rows
 
 module _ (tables : List (List PeriodRow)) (history : History) (day : ℤ) where
-  -- rows that are there are seen
+  -- rows of the lists are seen
   sound_product : (conjuncts : Conditions) (start : ℕ) (references : List QueryReference) (values : List Value) → NeededIn tables history conjuncts start references → InProduct (VisibleInTables tables day) references values → InProduct (VisibleInHistory history day) references values
   sound_product conjuncts start [] values needed h = h
   sound_product conjuncts start (reference ∷ references) values (needs, (width, wide, more)) (first, rest, sees, others, is) =
       (first, rest, needs.sound day first sees, sound_product conjuncts (start + width) references rest more others, is)
 
-  -- and none is missing that is part of a row that meets the conditions
+  -- no needed row is missing that is part of a row that meets the conditions
   whole_product : (conjuncts : Conditions) (start : ℕ) (references : List QueryReference) (before values : List Value) → NeededIn tables history conjuncts start references → length before ≡ start → meets_all conjuncts (before ++ values) ≡ true →
       InProduct (VisibleInHistory history day) references values → InProduct (VisibleInTables tables day) references values
   whole_product conjuncts start [] before values needed long met h = h
@@ -338,7 +338,7 @@ pub added_none : (history : History) (conjuncts : Conditions) (start : ℕ) (ref
 added_none history conjuncts start references lists none =
     ([], sym (append-nil lists), subst (λ (rs : List QueryReference). SeeNeeded history conjuncts start rs []) (sym none) tt)
 
--- a reference's list, and after it those of the others
+-- a reference's list, and after it the lists of the later references
 pub added_more : (history : History) (conjuncts : Conditions) (start next width : ℕ) (references more : List QueryReference) (reference : QueryReference) (rows : List PeriodRow) (lists pushed new : List (List PeriodRow)) → references ≡ reference ∷ more →
     IsNeeded history conjuncts start reference rows → SeesWidth history reference width → next ≡ start + width → pushed ≡ lists ++ rows ∷ [] → AddNeeded (SeeNeeded history conjuncts next more) pushed new → AddNeeded (SeeNeeded history conjuncts start references) lists new
 added_more history conjuncts start next width references more reference rows lists pushed new split needs wide next_is pushed_is (added, made, others) = (

@@ -98,7 +98,7 @@ module _ (tables : List RowsByKey) (number : ℕ) (positions : List ℕ) (range 
         whole = λ v in_it c. in_filter (has_key_in t.positions range) t.rows v c (ap (λ (ps : List ℕ). has_key_in ps range v) (sym (is t refl)) ∙ in_it);
       }
 
--- so of those that a test passes
+-- of versions that a test passes, some that lack none whose key is in the range
 lack_seen : (test sees : VersionRow → Bool) (all some : List VersionRow) → LackNone test all some → LackNone test (filter sees all) (filter sees some)
 lack_seen test sees all some lack = record {
   within = λ v c. (let (its, passes) = from_filter sees some v c in in_filter sees all v (lack.within v its) passes);

@@ -71,7 +71,7 @@ module _ (clock : ℤ) (action : Action) (before : int_eq clock forever ≡ fals
       go true false rest = omega (arith, rest)
       go false b rest = rest
 
-  -- the rest of a version has ended if the version had, or if it is kept
+  -- the rest of a version has ended if the version had, or if some of it remains
   left_past : (v : PlainVersion) → length (filter is_past (remains_of clock action v)) ≡ length (filter is_past (v ∷ [])) + length (filter is_kept (v ∷ []))
   left_past v = go (int_eq v.to forever) (touches action (its_row v)) (int_eq v.from clock) refl
     where
@@ -149,11 +149,11 @@ past_count g history engine represents table =
     ∙ sym (ap length (filter-map is_past plain_version held.rows))
     ∙ sym (length_permutation (filter is_past (map plain_version held.rows)) (past_of history table) past)
 
--- a change of these versions
+-- a change of the touched versions
 lost : (touched before after past forgotten later : ℕ) → before ≡ past → after ≡ later → past + touched ≡ later + forgotten → past ≤ later → lost_of touched before after ≡ forgotten
 lost touched before after past forgotten later was is all more = omega (arith, was, is, all, more)
 
--- no fewer have ended
+-- after a change no fewer versions have ended
 rise : (history : History) (change : Change) → clock_of history <ℤ forever → length (past_of history change.table) ≤ length (past_of (with_event history (Changed (clock_of history) change)) change.table)
 rise history change before =
     let past = ap (λ (vs : List PlainVersion). length (filter is_past vs)) (after_change history change) ∙ changed_past (clock_of history) change.action (not_forever (clock_of history) before) (versions_of history change.table) in
@@ -175,7 +175,7 @@ module _ {S : Type 0} (g : Ghosts S) (history last : History) (old new : EngineS
       (ap (λ (n : ℕ). length (past_of history change.table) + n) count ∙ changes_end_or_forget history change clock_before)
       (rise history change clock_before))
 
-  -- the table of a statement
+  -- the table that a statement names has one number, in the catalog and in the history
   found : (name : Name) (number : ℕ) → number_of (catalog_of history) name ≡ Some number → unwrap_or (number_of old.catalog.tables name) 0 ≡ number
   found name number there = ap (λ (o : Option ℕ). unwrap_or o 0) (ap (λ (ts : List TableDef). number_of ts name) (tables_of g history old was) ∙ there)
 
@@ -210,7 +210,7 @@ module _ {S : Type 0} (g : Ghosts S) (history last : History) (old new : EngineS
   deleted t d (Update portion assignments condition) versions outcome are done = absurd are
   deleted t d (Delete portion condition) versions outcome are done = ap (λ (o : Outcome). touched_in (Ok o)) done
 
-  -- so many versions are lost, where this is the table that a statement may change
+  -- the number of lost versions, if this is the table that a statement may change
   abbrev pub lost_in : ℕ → Result Outcome Refusal → ℕ
   lost_in table result = lost_of (touched_in result) (length (ended_in old.ended table)) (length (ended_in new.ended table))
 

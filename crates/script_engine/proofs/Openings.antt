@@ -35,7 +35,7 @@ row tables clock v good = record {
 }
 
 module _ (tables : List TableDef) (clock : ℤ) where
-  -- the rows of a table
+  -- the rows of a table, of the versions of a store
   abbrev pub Rows : ℕ → List TableVersion → Type 0
   Rows table versions = (rows : List VersionRow) × (of_table table versions ≡ map (version_in table) rows)
 
@@ -182,7 +182,7 @@ all_points good lawful = record {
   constrained = lawful;
 }
 
--- without it the others do
+-- the points that are left without this point
 abbrev pub other_points : {db : sqlite.Database} → IsGoodStore AreConstrained db → IsGoodStore NoExtraCondition db
 other_points good = record {
   form = good.form;
@@ -202,7 +202,7 @@ other_points good = record {
 pub good_and_lawful : {db : sqlite.Database} (good : IsGoodStore AreConstrained db) → AreGood AreConstrained (its_contents good)
 good_and_lawful good = let fine = good_contents (other_points good) in record { clock = fine.clock; few = fine.few; lawful = fine.lawful; versions = fine.versions; constrained = good.constrained }
 
--- so a good store is one of the history to which nothing was done since it was opened
+-- a good store is one of the history to which nothing was done since it was opened
 pub good_history : {S : Type 0} (g : Ghosts S) (engine : EngineState S) (db : sqlite.Database) (good : IsGoodStore NoExtraCondition db) → AreConstrained (its_contents good) → HasContents g engine (its_contents good) →
     (history : History) × EngineRepresents g history engine
 good_history g engine db good lawful has =

@@ -49,7 +49,7 @@ module _ {H R : Type 0} (IsStep : H → List Lexeme → R → H → Type 0) wher
       rw (pieces_next script tokens spans i d inside, added)
       (run_more old (map (spanned (lexemes_at script tokens)) (take i spans)) results middle (lexemes_at script (take ((get_or spans i d).end - (get_or spans i d).start) (drop (get_or spans i d).start tokens))) result new run step)
 
--- over an engine, the results of what is kept step as that does
+-- over an engine, the results of recorded values step as these values do
 kept_pieces : {S K : Type 0} (g : Ghosts S) (result_of : K → Result Outcome Refusal) (old : EngineState S) (pieces : List (List Lexeme)) (kept : List K) (new : EngineState S) → StepPieces (KeptStepOver g result_of) old pieces kept new →
     StepPieces (PieceStepOver g) old pieces (map result_of kept) new
 kept_pieces g result_of old [] [] new same = same
@@ -65,7 +65,7 @@ kept_run g result_of opening script kept all = record {
   run = kept_pieces g result_of opening all.pieces kept all.last all.run;
 }
 
--- the results of an audited run are those of a run
+-- the results of an audited run are the results of a run
 pub unaudited_piece : (history : History) (piece : List Lexeme) (entry : Entry) (new : History) → AuditedPieceStep history piece entry new → PieceStep history piece entry.result new
 unaudited_piece history piece entry new (inl (refusal, is, may, same)) = inl (refusal, ap (λ (e : Entry). e.result) is, may, same)
 unaudited_piece history piece entry new (inr (s, none, spelled, audited)) = inr (s, none, spelled, audited.step)

@@ -44,7 +44,7 @@ seen_rows table window versions rows seen all are =
     (IsPermutation-trans (map (version_in table) ours) (seen_of table window versions) (map (version_in table) seen)
     (IsPermutation-sym (seen_of table window versions) (map (version_in table) ours) filtered) are)
 
--- so the rows that are listed as current are the current ones
+-- the rows that are listed as current are the current ones
 pub current_listed : (table : ℕ) (versions : List TableVersion) (rows listed : List VersionRow) → IsPermutation (of_table table versions) (map (version_in table) rows) → IsPermutation (seen_of table Now versions) (map (version_in table) listed) →
     IsPermutation (current rows) listed
 current_listed table versions rows listed all are = seen_rows table Now versions rows listed all are

@@ -87,7 +87,7 @@ otherwise : (b : Bool) → (b ≡ true → ⊥) → b ≡ false
 otherwise true never = absurd (never refl)
 otherwise false never = refl
 
--- versions of such rows have two keys
+-- versions of two rows that differ have two keys
 keys_differ : (table : ℕ) (a b : VersionRow) → Differ (row_of a) (row_of b) → same_version (version_in table a) (version_in table b) ≡ false
 keys_differ table a b differ =
     otherwise (same_version (version_in table a) (version_in table b)) (λ same.
@@ -100,7 +100,7 @@ keys_differ table a b differ =
 -- ---- the remains of versions
 
 module _ (table : ℕ) (moment : ℤ) (ended : List VersionRow) where
-  -- the key of a version is another than that of what is left of one of another key
+  -- the rest of a version with one key has not the key of a version with another
   kept_apart : (v w : TableVersion) → same_version v w ≡ false → AllByRecursion (λ (u : TableVersion). same_version v u ≡ false) (remains_of table moment ended w)
   kept_apart v w differ = go (is_ended table ended w) (is_eq (int_cmp w.from moment))
     where
@@ -148,7 +148,7 @@ last_false true true false d e = refl
 last_false true false c d e = refl
 last_false false b c d e = refl
 
--- of the current versions of a table the first is one, or it is not
+-- the first version of a table is a current one, or it is not
 first_seen : (table : ℕ) (v : TableVersion) (vs : List TableVersion) → HaveDistinctKeys (seen_of table Now (v ∷ vs)) →
     HaveDistinctKeys (seen_of table Now vs) × ((v.table == table) ≡ true → is_open v ≡ true → AreApartFrom v (seen_of table Now vs))
 first_seen table v vs apart = by_table (v.table == table) apart
@@ -249,7 +249,7 @@ module _ (history : History) (c : Contents) (change : Change) (plan : Plan) (sai
   }
 
   module _ (d : TableDef) (there : table_of (catalog_of history) change.table ≡ Some d) (allowed : IsLawfulChange (catalog_of history) (last_state history) change) where
-    -- no two of these rows clash
+    -- no two rows of the table clash
     no_clash : HasNoClash (key_positions d) (map row_of rows_now)
     no_clash day clash =
         let Same : List Value → List Value → Type 0 = λ v w. values_at (key_positions d) v ≡ values_at (key_positions d) w in
@@ -268,6 +268,6 @@ module _ (history : History) (c : Contents) (change : Change) (plan : Plan) (sai
         (ascending_weaker (λ (a b : VersionRow). Differ (row_of a) (row_of b)) (λ (a b : VersionRow). same_version (version_in change.table a) (version_in change.table b) ≡ false) (keys_differ change.table) rows_now
         (ascending_from_map Differ row_of rows_now (all_differ (key_positions d) (map row_of rows_now) no_clash))))
 
-    -- so no two versions have one key
+    -- no two versions have one key
     pub planned_distinct : HaveDistinctKeys after.versions
     planned_distinct = joined change.table c.clock plan.added left (distinct_left change.table c.clock plan.ended c.versions apart) recorded_left distinct_now

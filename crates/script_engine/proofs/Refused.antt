@@ -25,7 +25,7 @@ use Rattle.script_engine.specs.engine.EngineState.{EngineState}
 use Rattle.script_engine.specs.engine.Runs.{MayRefuseQuery}
 use Rattle.script_engine.proofs.PlanFacts.{rows_given}
 
--- a refusal among more conditions
+-- a refusal whose condition holds is one among more conditions
 pub holds_before : (conditions more : List RefusalCondition) (refusal : Refusal) → Holds conditions refusal → Holds (conditions ++ more) refusal
 holds_before [] more refusal h = absurd h
 holds_before (first ∷ conditions) more refusal (inl h) = inl h
@@ -62,13 +62,13 @@ days-given (first ∷ given) (row ∷ rows) e =
     let here : is_empty_row first ≡ false = grind (arith, ints, start, end, ordered) in
     rw here (days-given given rows tail)
 
--- so the rows of an action of which there is a plan have days
+-- the rows of an action of which there is a plan have days
 pub days-planned : (action : Action) (listed : List VersionRow) (plan : Plan) → Plans action listed plan → has_empty_row action ≡ false
 days-planned (Insert given) listed plan plans = days-given given plan.added (rows_given given listed plan plans)
 days-planned (Update portion assignments condition) listed plan plans = refl
 days-planned (Delete portion condition) listed plan plans = refl
 
--- an answer by the conditions alone is one also if that of an empty period follows them
+-- an answer by the conditions alone is one also if the condition of an empty period follows them
 pub may_answer-before : (conditions : List RefusalCondition) (holds : Bool) (refusal : Refusal) → are_at_most 41 conditions ≡ true → MayAnswer (Holds conditions) refusal → MayAnswer (Holds (conditions ++ (EmptyPeriod, holds) ∷ [])) refusal
 may_answer-before conditions holds refusal low (inr memory) = inr memory
 may_answer-before conditions holds refusal low (inl least) = inl (record {
@@ -83,7 +83,7 @@ may_answer-before conditions holds refusal low (inl least) = inl (record {
       ];
 })
 
--- an empty period is answered if its condition holds and none of the others does
+-- an empty period is answered if its condition holds and no other condition does
 pub may_answer-empty : (conditions : List RefusalCondition) (holds : Bool) → NoneApplies (Holds conditions) → holds ≡ true → MayAnswer (Holds (conditions ++ (EmptyPeriod, holds) ∷ [])) EmptyPeriod
 may_answer-empty conditions holds none held = inl (record {
   applies = holds_after conditions ((EmptyPeriod, holds) ∷ []) EmptyPeriod (inl (refl, held));
@@ -102,7 +102,7 @@ pub failed_query : {S : Type 0} (g : Ghosts S) (old new : EngineState S) (s : St
 failed_query g old new s refusal (inl memory) = inl (inr memory)
 failed_query g old new s refusal (inr fault) = inr fault
 
--- one that is a failure of the store is due to a fault
+-- a refusal that is a failure of the store is due to a fault
 pub by_fault : {S : Type 0} (g : Ghosts S) (old new : Held S) (refusal : Refusal) → IsFailure g old new refusal → refusal ≡ Store → HasFault (state g old) (state g new)
 by_fault g old new refusal (inl memory) told = let no : Store ≡ Memory = sym told ∙ memory in absurd cc
 by_fault g old new refusal (inr fault) told = fault

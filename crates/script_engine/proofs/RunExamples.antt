@@ -60,7 +60,7 @@ back_not_for_memory (inr (inr failed)) = let late : pos 5 ≤ℤ pos 4 = failed.
 
 -- ---- answers
 
--- the value 7
+-- the values of a row: 7
 abbrev seven : List Value
 seven = Int (pos 7) ∷ []
 
@@ -114,7 +114,7 @@ is_answer = record {
   );
 }
 
--- the row cut in two on day 6: on the day before, which is its witness, the values of the second are there
+-- the row cut in two on day 6: the day before is its witness, on which the second row's values hold
 abbrev two_rows : Answer
 two_rows = record {
   columns = codes "V" ∷ [];

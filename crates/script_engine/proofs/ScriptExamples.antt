@@ -63,7 +63,7 @@ script_text = codes "SELECT * FROM T;a"
 abbrev semicolon : Lexeme
 semicolon = record { kind = Symbol; text = codes ";"; start = 15; end = 16 }
 
--- the tokens before it
+-- the tokens before the semicolon
 abbrev lookup : List Lexeme
 lookup =
     record { kind = Word; text = codes "SELECT"; start = 0; end = 6 }
@@ -72,7 +72,7 @@ lookup =
     ∷ record { kind = Word; text = codes "T"; start = 14; end = 15 }
     ∷ []
 
--- the token after it
+-- the token after the semicolon
 abbrev letter : List Lexeme
 letter = record { kind = Word; text = codes "a"; start = 16; end = 17 } ∷ []
 
@@ -94,7 +94,7 @@ cut = record {
   parted = (lookup ∷ letter ∷ [], pieces.Joined.more lookup semicolon refl refl (pieces.Joined.one letter refl), refl);
 }
 
--- the first piece is a query of the rows of T as they are kept
+-- the first piece is a query of the stored rows of T
 abbrev looked_up : Statement
 looked_up = stored (record { table = codes "T"; window = None; condition = None })
 
@@ -106,7 +106,7 @@ lookup_is_read = refl
 lookup_spelled : IsStatement lookup looked_up
 lookup_spelled = spelled_if_read 0 lookup looked_up lookup_is_read refl refl refl
 
--- so no refusal applies to it: it has four tokens, no literal, and no parenthesis
+-- no refusal applies to the lookup: it has four tokens, no literal, and no parenthesis
 lookup_sound : NoneApplies (TextApplies lookup)
 unfolding room
 lookup_sound = sound_if_read 0 32 lookup looked_up lookup_is_read (omega arith) refl refl refl refl
@@ -116,7 +116,7 @@ letter_is_not_read : whole_read (statement_read 1) letter ≡ None
 unfolding statement_read later_statement_read query_statement_read stored_read
 letter_is_not_read = refl
 
--- nor is it too deep
+-- the letter is not too deep
 letter_shallow : IsTooDeep letter → ⊥
 unfolding room
 letter_shallow = some_shallow 32 letter 32 refl
@@ -133,7 +133,7 @@ of_text piece refusal short (inl least) = inl (record {
       ];
 })
 
--- so it is refused with 10
+-- the letter is refused with 10
 letter_refused : MayAnswer (TextApplies letter) Syntax
 letter_refused = of_text letter Syntax (λ long. omega arith) (no_statement letter letter_shallow (none_if_unread letter letter_is_not_read))
 
@@ -147,7 +147,7 @@ unfolding lacks_named number_of table_of_name
 lookup_step =
     inr (looked_up, lookup_sound, lookup_spelled, (inl (inl (first_least (stored_conditions [] looked_up) UnknownTable (lit≤ tt, (lit≤ tt, (lit≤ tt, (lit≤ tt, (lit≤ tt, (lit≤ tt, tt)))))) refl)), refl))
 
--- and the second as it is if it is checked
+-- the second piece is refused as it is if the script is checked
 run : IsRunOf script_text (Err UnknownTable ∷ Err Syntax ∷ [])
 run = record {
   pieces = lookup ∷ letter ∷ [];

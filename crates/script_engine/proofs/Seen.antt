@@ -1,4 +1,4 @@
--- One table reference sees, as period rows, those of the versions that its window sees.
+-- One table reference sees, as period rows, the versions that its window sees.
 use Rattle.std.proofs.Common.{◌≡◌, ◌↔◌, ◌++◌, ◌∙◌, ℕ, ℤ, Bool, List, filter, map, refl, reverse, sym, ap, subst}
 use Rattle.std.proofs.lemmas.List.{map-append}
 use Rattle.std.proofs.lemmas.List.Elements.{filter-append}
@@ -30,9 +30,9 @@ use Rattle.script_engine.proofs.LastState.{recorded_rows, values_along}
 use Rattle.script_engine.proofs.PlanFacts.{filtered_twice, seen_rows}
 use Rattle.script_engine.proofs.Recorded.{recorded_of}
 
--- ---- rows that are kept are what the window sees
+-- ---- the stored rows are what the window sees
 
--- the current rows in memory
+-- the current rows in memory are the rows that a reference without a window sees
 pub current_seen : (c : Contents) (tables : List RowsByKey) (number : ℕ) (rows : List PeriodRow) → HaveCurrentRows c tables → rows ≡ map row_of (rows_in tables number) → AreRowsSeen c number Now rows
 current_seen c tables number rows current are = record { versions = rows_in tables number; all = current.rows number; made = are }
 
@@ -49,7 +49,7 @@ all_in_memory c tables number list current ended =
     (IsPermutation-filter_both is_current table_ended (λ v. refl) versions)
     (IsPermutation-append (filter is_current versions) (map (version_in number) now) (filter table_ended versions) (map (version_in number) ended.versions) (current.rows number) ended.all))
 
--- so those of them that a window sees are all that it sees
+-- the stored rows that a window sees are all that it sees
 pub memory_seen :
     (c : Contents) (tables : List RowsByKey) (number : ℕ) (list : List PackedVersion) (window : Window) (rows : List PeriodRow) (current : HaveCurrentRows c tables) (ended : HasEnded c number list)
     → rows ≡ map row_of (seen_through window (rows_in tables number)) ++ map row_of (reverse (seen_through window ended.versions))
@@ -110,7 +110,7 @@ rows_seen_hold history c table window rows said seen day values =
       λ through. Contains-permutation whole here values same (back through),
     )
 
--- so a reference sees the rows that it is handed
+-- a reference sees the rows that it is handed
 pub sees_rows : (history : History) (c : Contents) (reference : QueryReference) (rows : List PeriodRow) → AreOfHistory history c → AreRowsSeen c reference.table reference.window rows → SeesRows history reference rows
 sees_rows history c reference rows said seen =
     let holds = said.versions reference.table in

@@ -159,7 +159,7 @@ all_columns : (c : CreateTable) (ys : List Column) → has_bad_column c ≡ fals
 unfolding has_bad_column
 all_columns c ys sound same = narrow_columns c.columns ys sound same
 
--- so the values of a row of a lawful table are few bytes
+-- the values of a row of a lawful table are few bytes
 pub short_row : (tables : List TableDef) (d : TableDef) (values : List Value) → IsLawful tables d → are_row_values d values ≡ true → IsShort (encoded values)
 short_row tables d values (c, sound, defined) are =
     let few = few_columns tables c (λ is. sound LimitReached (inl (refl, is))) in

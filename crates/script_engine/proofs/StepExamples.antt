@@ -109,7 +109,7 @@ at_first = opened new_database
 abbrev pub with_table : History
 with_table = with_event at_first (Created emp)
 
--- in a new store no condition of a refusal holds for it
+-- no condition of a refusal holds for the CREATE in a new store
 creation_is_sound : NoneApplies (StatementApplies at_first (statement.create creation))
 unfolding matches_among period_matches some_match_among some_parent_match some_match has_sort sort_count exceeds_limits is_there lacks_parent names_other_period lacks_period lacks_name is_ambiguous is_shared repeats repeats_name is_no_value_column some_no_value keys_period_column lacks_one_of_each has_bad_period has_bad_system_period is_bad_type has_bad_column is_used_otherwise has_other_period is_at is_key_name is_named are_key names_no_key references_no_key is_bad_definition has_unequal_lists own_kind def_kind have_other_kinds names_other_kind references_other_kind is_matching is_of_sort number_of table_of_name kind_of_type kind_of_column same_kind differ find_among
 creation_is_sound = none_if_no_first (create_conditions [] creation) refl
@@ -145,7 +145,7 @@ insertion = into_emp (employee 1 5 8 ∷ [])
 abbrev pub worker : List Value
 worker = Int (pos 1) ∷ Int (pos 7) ∷ []
 
--- in table 1, from day 5 on and before day 8
+-- a row of table 1, from day 5 on and before day 8
 abbrev pub inserted_row : Change
 inserted_row = record { table = 1; action = Insert (record { values = worker; start = pos 5; end = pos 8 } ∷ []) }
 
@@ -185,13 +185,13 @@ inserted = (
 abbrev half_empty : InsertRows
 half_empty = into_emp (employee 1 5 8 ∷ employee 2 8 8 ∷ [])
 
--- the second row ends on its first day: no history in which the first row is there follows the refusal
+-- the second row ends on its first day: no history that has the first row follows the refusal
 first_row_not_added : Step with_table (statement.insert half_empty) (Err EmptyPeriod) with_row → ⊥
 first_row_not_added (may, same) = cc
 
 -- ---- stored queries
 
--- the row as it is kept
+-- the stored row
 abbrev kept : VersionRow
 kept = record { values = worker; period = period_over (pos 5) (pos 8) refl; from = first_moment; to = forever }
 

@@ -33,7 +33,7 @@ pub may_refuse-store : (Applies : Refusal → Type 0) (refusal : Refusal) → Is
 may_refuse-store Applies refusal (inl memory) none = inl (inr memory)
 may_refuse-store Applies refusal (inr store) none = inr (store, λ other applies. absurd (none other applies))
 
--- the tables that are kept in memory are those of the history
+-- the tables in memory are the history's
 pub tables_of : {S : Type 0} (g : Ghosts S) (history : History) (engine : EngineState S) → EngineRepresents g history engine → engine.catalog.tables ≡ catalog_of history
 tables_of g history engine kept = kept.stored.catalog ∙ kept.said.tables
 
@@ -47,7 +47,7 @@ by_condition history (statement.create c) refusal may = may
 by_condition history (statement.sequenced q) refusal may = may
 by_condition history (statement.stored q) refusal may = may
 
--- a refusal leaves the history and what is kept as they were
+-- a refusal leaves the history and the engine as they were
 pub refused_step : {S : Type 0} (g : Ghosts S) (history : History) (engine : EngineState S) (s : Statement) (refusal : Refusal) → EngineRepresents g history engine → MayRefuse (StatementApplies history s) refusal → StepsTo g history s (Err refusal) engine
 refused_step g history engine s refusal kept may = (history, (by_condition history s refusal may, refl), kept)
 

@@ -23,7 +23,7 @@ use Rattle.statement_reports.specs.declared.outcome.Outcome.{Outcome}
 use Rattle.statement_reports.specs.declared.outcome.Outcome.TheVariants.{Done}
 use Rattle.statement_reports.specs.declared.outcome.Word.TheVariants as word
 
--- the clock of the engine is that of the history that it represents
+-- the engine has the clock of the history that it represents
 pub same_clock : {S : Type 0} (g : Ghosts S) (history : History) (engine : EngineState S) → EngineRepresents g history engine → engine.clock ≡ clock_of history
 same_clock g history engine represents = represents.stored.clock ∙ represents.said.clock
 
@@ -31,7 +31,7 @@ same_clock g history engine represents = represents.stored.clock ∙ represents.
 
 module _ (spelled : ℤ → List Lexeme) (spells : (moment : ℤ) → IsClockMoment moment → NoneApplies (TextApplies (spelled moment)) × IsStatement (spelled moment) (statement.at moment)) where
   module _ (new : History) (pieces : List (List Lexeme)) (kept : List (Timed (Result Outcome Refusal))) (all : List (List Lexeme)) (results : List (Result Outcome Refusal)) (withs : AreWithAts spelled pieces kept all results) where
-    -- with one more piece in front
+    -- a run of timed pieces with one more piece in front
     first : (old middle : History) (piece : List Lexeme) (timed : Timed (Result Outcome Refusal)) → RunPieces middle all results new → TimedPieceStep PieceStep Err old piece timed middle →
         (more : List (List Lexeme)) × (told : List (Result Outcome Refusal)) × AreWithAts spelled (piece ∷ pieces) (timed ∷ kept) more told × RunPieces old more told new
     first old middle piece timed run (inl (refusal, may, is, same)) =
@@ -63,7 +63,7 @@ timed_runs_are_runs spelled spells old new pieces kept steps = with_ats spelled 
 
 -- ---- the clock
 
--- from a clock on: it goes back to none before, and on to none that is later than a time
+-- from a clock on: it never moves back, and never to a moment that is later than a time
 abbrev GoesOn : ℤ → ℤ → ℤ → Type 0
 GoesOn time clock next = (clock ≤ℤ next) × ((next ≡ clock) ⊎ (next ≤ℤ time))
 

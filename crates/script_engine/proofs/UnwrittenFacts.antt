@@ -17,17 +17,17 @@ use Rattle.script_engine.proofs.Steps.{tables_of}
 use Rattle.script_engine.proofs.TimedFacts.{same_clock}
 
 module _ {S : Type 0} (g : Ghosts S) (history : History) (engine : EngineState S) (kept : EngineRepresents g history engine) (s : Statement) where
-  -- by the tables and the clock in memory, and by those of the history
+  -- conditions over the engine's tables and clock are conditions over the history's
   pub applies_in : (P : (Refusal → Type 0) → Type 0) → P (AppliesOver engine.catalog.tables engine.clock s) → P (StatementApplies history s)
   applies_in P p = subst₂ (λ (tables : List TableDef) (clock : ℤ). P (AppliesOver tables clock s)) (tables_of g history engine kept) (same_clock g history engine kept) p
 
-  -- of what is no change
+  -- a refusal of a statement that is no change, in the history
   pub unwritten_in : (refusal : Refusal) → (IsChange s → ⊥) → MayRefuseUnwrittenOver engine.catalog.tables engine.clock s refusal → MayRefuseUnwritten history s refusal
   unwritten_in refusal unchanged (inl may) = inl (applies_in (λ A. MayAnswer A refusal) may)
   unwritten_in refusal unchanged (inr (none, inl (is, by))) = absurd (unchanged is)
   unwritten_in refusal unchanged (inr (none, inr store)) = inr (inr (store, applies_in NoneApplies none, λ is. absurd (unchanged is)))
 
-  -- of a lawful change
+  -- a lawful change, in the history
   pub makes_lawful : (change : Change) → ResolvesChange engine.catalog.tables s change → IsLawfulChange engine.catalog.tables (last_state history) change → MakesLawful history s
   makes_lawful change resolved lawful is = (
     change,

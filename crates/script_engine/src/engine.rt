@@ -148,7 +148,7 @@ impl<S: Alter> Engine<S> {
 
         // A good store is refused only for memory, or if there was a fault of the database: one
         // of form 1, which is moved, if its database is healthy and its versions are short. Its
-        // rows have rowids of their own, as those of each table have.
+        // rows have rowids of their own, as the rows of each table have.
         ensures why { IfErr result (λ failed. IsUsable S.Store failed.1
             → (good : IsGoodStore AreConstrained (state S.Store connection).now)
             → (good.form ≡ Seconds → IsMovable (state S.Store connection).now good.contents)
@@ -270,7 +270,7 @@ impl<S: Alter> Engine<S> {
     }
 
     /// Moves the clock to a moment. An `Err` changes nothing: it is 13 for FOREVER, 40 for a
-    /// moment before the clock, whatever memory there is, and only for others 61 or 62; over a
+    /// moment before the clock, whatever memory there is, and 61 or 62 for other moments; over a
     /// healthy database 62 only if there was a fault of it.
     pub fn at(&mut self, moment: Moment) -> Result<(), Refusal>
         ensures moved { IsUsable S.Store self.new.connection

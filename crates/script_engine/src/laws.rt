@@ -39,8 +39,8 @@ pub fn audits_agree()
     ensures { AuditsAgree }
 {}
 
-/// Audits of an answer give one number of days: that of the rows that the references of its query
-/// see, and of the answer.
+/// Audits of an answer give one number of days, the number of the change days of the answer and of
+/// the rows that the references of its query see.
 pub fn audits_count_once()
     ensures { AuditsCountOnce }
 {}
@@ -58,7 +58,7 @@ pub fn timed_runs_are_runs()
     ensures { TimedRunsAreRuns }
 {}
 
-/// At the system's time the clock never goes back, and never beyond that time.
+/// At the system's time the clock never moves back, and never beyond that time.
 pub fn timed_clocks_go_on()
     ensures { TimedClocksGoOn }
 {}

@@ -133,7 +133,7 @@ pub(crate) fn script_pieces<'a>(alloc: Global, script: &'a [u8]) -> Result<Piece
     })
 }
 
-/// Runs a piece of a script, and gives what is kept of it.
+/// Runs a piece of a script, and gives the record of it.
 fn run_piece<S: Alter, K: PieceResult<S>, C: Clock>(
     alloc: Global,
     engine: &mut Engine<S>,
@@ -161,7 +161,7 @@ fn run_piece<S: Alter, K: PieceResult<S>, C: Clock>(
 }
 
 /// Runs the pieces of a script, one after the other, from any history that the engine represents,
-/// and passes on what it keeps of each. Says whether it came to the last: it ends before where the
+/// and passes on what it keeps of each. Says whether it came to the last: it ends earlier if the
 /// listener asks for no more.
 fn run_pieces<S: Alter, K: PieceResult<S>, C: Clock, L: Listener<K>>(
     alloc: Global,
@@ -201,8 +201,8 @@ fn run_pieces<S: Alter, K: PieceResult<S>, C: Clock, L: Listener<K>>(
     true
 }
 
-/// Runs a script over the store of a connection, a new one where there is none, and keeps of each
-/// of its pieces, in order, its result, or with it the audit of its answer. Gives what was kept,
+/// Runs a script over the store of a connection, a new one if there is none, and keeps of each
+/// of its pieces, in order, its result, or with it the audit of its answer. Gives these records,
 /// and the engine as it is then. An `Err` hands the connection back: it is the refusal of the whole
 /// script, of which nothing is run; out of memory; or, of a script that is sound, why the store is
 /// not opened: 60, 61 or 62. It changes nothing.
@@ -261,8 +261,8 @@ pub fn run<S: Alter, K: PieceResult<S> + Drop>(
     Ok((kept, engine))
 }
 
-/// Runs a script over the store of a connection, a new one where there is none. The results are
-/// those of its statements, refused ones too, in order; an `Err` is that of [`run`].
+/// Runs a script over the store of a connection, a new one if there is none. The results are
+/// those of its statements, refused ones too, in order; an `Err` is as [`run`] gives it.
 pub fn run_script<S: Alter + Drop>(
     alloc: Global,
     connection: Connection<S>,
@@ -270,7 +270,7 @@ pub fn run_script<S: Alter + Drop>(
 ) -> Result<Vec<Result<Outcome, Refusal>>, Refusal>
     requires { connection.in_transaction ≡ false }
     // The connection is dropped, so this is said of stores that are always usable, as each in
-    // memory is. Of others `run` says it.
+    // memory is. For all stores `run` says it.
     ensures run { IsAlwaysUsable S.Store
         → (history : History) → DatabaseRepresents history (state S.Store connection).now
         → IfOk result (λ results. IsRunFrom history script.now results.items) }
@@ -291,7 +291,7 @@ pub fn run_script<S: Alter + Drop>(
 
 /// Runs a script with an audit of each answer at once, over the rows that were seen for it. The
 /// entries are those of the script's statements, refused ones too, in order. An audit says that
-/// the answer agrees, or is refused for memory; the script goes on either way.
+/// the answer agrees, or is refused for memory; the script continues either way.
 pub fn run_audited<S: Alter + Drop>(
     alloc: Global,
     connection: Connection<S>,

@@ -13,7 +13,7 @@ pub ruled_out-not : (conjuncts : List Cond) (values : List Value) → RulesOut c
 ruled_out-not conjuncts values ruled (rest, met) = ruled [] rest refl met
 
 module _ (conjuncts : List Cond) where
-  -- all of the set
+  -- rows with the days and values of the old rows and of a set add the set
   pub Adds-all :
       (InSet : ℤ → List Value → Type 0) (old new : List PeriodRow)
       → ((day : ℤ) (vs : List Value) → (InSnapshot new day vs ↔ (InSnapshot old day vs ⊎ InSet day vs)))
@@ -35,7 +35,7 @@ module _ (conjuncts : List Cond) where
     complete = λ day vs h can. absurd (none day vs h can);
   }
 
-  -- one set and then another
+  -- rows that add one set, and then another
   pub Adds-both :
       (First Second Both : ℤ → List Value → Type 0) (old middle new : List PeriodRow)
       → Adds conjuncts First old middle → Adds conjuncts Second middle new
@@ -53,7 +53,7 @@ module _ (conjuncts : List Cond) where
     ];
   }
 
-  -- adding behind other rows
+  -- adding after other rows
   pub Adds-behind :
       (InSet : ℤ → List Value → Type 0) (done old new : List PeriodRow) → Adds conjuncts InSet old new
       → Adds conjuncts InSet (done ++ old) (done ++ new)

@@ -1,4 +1,4 @@
--- The first element of a list and the others, as a pattern of a slice reads them.
+-- The first element of a list and the rest, as a pattern of a slice reads them.
 use Rattle.std.proofs.Common.{◌≡◌, ◌≤◌, ◌-◌, List, [], ◌∷◌, length, get_or, take, drop, sym, ◌∙◌, ap, arith}
 use Rattle.std.proofs.lemmas.List.{take_all}
 
@@ -9,13 +9,13 @@ first_at (y ∷ ys) d h =
     let all : take (length (y ∷ ys) - 1) ys ≡ ys = take_all (length (y ∷ ys) - 1) ys (omega arith) in
     ap (λ zs. y ∷ zs) (sym all)
 
--- a list that is not empty is its first element and the others
+-- a list that is not empty is its first element and the rest
 pub first_of : {X : Type 0} (xs : List X) (x : X) → 1 ≤ length xs → x ≡ get_or xs 0 x → xs ≡ x ∷ take (length xs - 1) (drop 1 xs)
 first_of [] x h e = absurd (omega arith)
 first_of (y ∷ ys) x h e =
     let all : take (length (y ∷ ys) - 1) ys ≡ ys = take_all (length (y ∷ ys) - 1) ys (omega arith) in
     ap (λ z. z ∷ ys) (sym e) ∙ ap (λ zs. x ∷ zs) (sym all)
 
--- the elements behind the first
+-- the elements after the first
 abbrev pub behind : {X : Type 0} → List X → List X
 behind xs = take (length xs - 1) (drop 1 xs)

@@ -11,7 +11,7 @@ use Rattle.sequenced_ops.specs.declared.outputs.JoinOutput.TheVariants.{Pairs}
 use Rattle.sequenced_ops.proofs.Added.{Adds-behind, Adds-both}
 use Rattle.sequenced_ops.proofs.TwoRows.{holds-append}
 
--- of other pairs too, where what is known of the pairs says so
+-- rows that come of pairs come of other pairs too, if what is known of the pairs says so
 pub gives_weaker :
     (Are Also : List PeriodRow → Type 0) (conjuncts : List Cond) (output : JoinOutput) (rows : List PeriodRow)
     → ((pairs : List PeriodRow) → Are pairs → Also pairs)
@@ -20,7 +20,7 @@ gives_weaker Are Also conjuncts output rows step (pairs, are, given) = (pairs, s
 
 -- ---- one batch
 
--- the rows that the selection of more rows adds to that of those before
+-- the rows that the selection of more rows adds to the selection of the earlier ones
 abbrev pub SelectsMore : List Cond → List ℕ → List PeriodRow → List PeriodRow → List PeriodRow → Type 0
 SelectsMore conjuncts columns selected pairs rows =
     SnapshotsAre (λ day values. InSnapshot selected day values ⊎ InSelected conjuncts columns pairs day values) rows

@@ -29,7 +29,7 @@ use Rattle.sequenced_ops.specs.declared.equalities.Equality.{Equality}
 use Rattle.sequenced_ops.proofs.KnownTruths.{get-left, get-right}
 use Rattle.std.proofs.lemmas.List.Folds.{list_all_at}
 
--- ---- two sides that are equal are there and the same
+-- ---- two sides that are equal exist and are the same
 
 is_tie : (o : Ordering) → is_eq o ≡ true → o ≡ order.Equal
 is_tie order.Less e = cc
@@ -135,13 +135,13 @@ keys_added conjuncts width more condition before after holds old new first secon
 
 -- ---- the keys of a condition by its parts
 
--- no key more
+-- a condition that is no equality adds no key
 pub adds_none
     : (condition : Cond) (width more : ℕ) (keys : List Equality)
     → AddsKeys condition width more keys keys
 adds_none condition width more keys first second rest e f met old = old
 
--- the key of a test
+-- a test that is an equality adds its key
 pub adds_test
     : (condition : Cond) (leaf : CompareValues) (width more : ℕ) (keys : List Equality)
     → (pair : Equality) → condition ≡ code.Test leaf
@@ -184,7 +184,7 @@ adds_alone condition first_part others width more before after is none new =
     ∙ ap (λ (t : Cond). meets t values) (sym is) ∙ met))
     (adds_none condition width more before) new
 
--- an AND holds only if its first part and the others do
+-- an AND holds only if its first part and the rest do
 and_is
     : (condition : Cond) (first_part : Box Cond) (others : Vec Cond) (values : List Value)
     → condition ≡ code.And first_part others → meets condition values ≡ true
@@ -261,7 +261,7 @@ pairs_pruned conjuncts rows others kept pairs width more keys lefts rights are_k
           are.complete day before values rest e (first, second, a, there, equal, is) met;
     }
 
--- a join by no equality
+-- a join without equalities is of all pairs
 pub all_pairs_pruned
     : (conjuncts : List Cond) (rows others pairs : List PeriodRow)
     → IsPruned conjuncts 0 (InEqualPairs [] rows others) pairs
@@ -283,7 +283,7 @@ and_true : (b : Bool) → b ≡ true → (b && true) ≡ true
 and_true true e = refl
 and_true false e = cc
 
--- of pairs that lack none that meets the condition those that meet it
+-- the pairs that meet the condition, of pairs that lack none that meets it
 pub joined_selection
     : (condition : Cond) (left right pairs : List PeriodRow)
     → IsPruned (condition ∷ []) 0 (InPairs left right) pairs → (day : ℤ) (values : List Value)

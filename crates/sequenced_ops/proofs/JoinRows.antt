@@ -65,13 +65,13 @@ sorted_rows rows up = λ i j d lt below.
 abbrev pub KeyedFrom : Side → List ℕ → List PeriodRow → KeyedRow → Type 0
 KeyedFrom side columns rows a = (row : PeriodRow) × Contains rows row × IsKeyed side columns row a
 
--- each row that has a key is there with it
+-- each row that has a key is in the list with it
 abbrev pub AllKeyed : Side → List ℕ → List PeriodRow → List KeyedRow → Type 0
 AllKeyed side columns rows keyed =
     (row : PeriodRow) (read : List Value) → Contains rows row → ReadsColumns columns row.values read
     → (a : KeyedRow) × Contains keyed a × IsKeyed side columns row a
 
--- the keyed rows are those before, and those of a side that have a key
+-- the keyed rows are the earlier ones, and the rows of a side that have a key
 pub record KeyedMore (side : Side) (columns : List ℕ) (old keyed : List KeyedRow) (done : List PeriodRow) : Type 0 where
   pub kept : (a : KeyedRow) → Contains old a → Contains keyed a
   pub added : AllKeyed side columns done keyed
@@ -118,7 +118,7 @@ keyed_skipped side columns old keyed done row none before = record {
   ];
 }
 
--- the rows of both sides that have a key, and no others
+-- the rows of both sides that have a key, and no more
 pub record AreBothSides (equalities : List Equality) (left right : List PeriodRow) (keyed : List KeyedRow) : Type 0 where
   pub lefts : AllKeyed Left (columns_on Left equalities) left keyed
   pub rights : AllKeyed Right (columns_on Right equalities) right keyed

@@ -10,11 +10,11 @@ use Rattle.sequenced_ops.specs.Planning.{IsPruned, RulesOut}
 use Rattle.sequenced_ops.proofs.TwoRows.{holds-push}
 
 module _ (conjuncts : List Cond) (start : ℕ) where
-  -- the rows that are kept of those that are done
+  -- the rows that remain of the done ones
   abbrev pub IsKept : List PeriodRow → List PeriodRow → Type 0
   IsKept done kept = IsPruned conjuncts start (InSnapshot done) kept
 
-  -- no rows are kept of none
+  -- no rows remain of none
   pub kept_none : IsKept [] []
   kept_none = record {
     sound = λ day values h. h;
@@ -27,7 +27,7 @@ module _ (conjuncts : List Cond) (start : ℕ) where
     complete = λ day first values rest e h met. h;
   }
 
-  -- a row that is kept is one more of those done and of those kept
+  -- a row that remains is one more done row and one more remaining one
   pub kept_more
       : (done kept : List PeriodRow) (row : PeriodRow) → IsKept done kept
       → IsKept (done ++ row ∷ []) (kept ++ row ∷ [])

@@ -25,7 +25,7 @@ use Rattle.sequenced_ops.specs.Joining.{columns_on, key_cmp, key_of}
 abbrev some : Value → Option Value
 some v = Some v
 
--- one position more
+-- the values at the columns, with one position more
 pub reads_more :
     (columns : List ℕ) (values read : List Value) (i column : ℕ) (value : Value) → i < length columns → column ≡ get_or columns i 0
     → slice_get values column ≡ Some value → ReadsColumns (take i columns) values read → ReadsColumns (take (i + 1) columns) values (read ++ value ∷ [])
@@ -34,7 +34,7 @@ reads_more columns values read i column value h is there old =
     ∙ ap₂ (λ (a : List (Option Value)) (b : Option Value). a ++ b ∷ []) old (ap (slice_get values) (sym is) ∙ there)
     ∙ sym (map-append some read (value ∷ []))
 
--- a position without a value
+-- a position without a value has no key
 pub no_value :
     (columns : List ℕ) (values read : List Value) (i : ℕ) → i < length columns → slice_get values (get_or columns i 0) ≡ None
     → ReadsColumns columns values read → ⊥
@@ -56,7 +56,7 @@ same_values (value ∷ values) (other ∷ others) e =
     let tail : map some values ≡ map some others = cc in
     ap₂ (λ (v : Value) (vs : List Value). v ∷ vs) head (same_values values others tail)
 
--- a read value is determined
+-- the values at given columns are unique
 pub same_read :
     (columns : List ℕ) (values read other : List Value) → ReadsColumns columns values read → ReadsColumns columns values other → read ≡ other
 same_read columns values read other p q = same_values read other (sym p ∙ q)

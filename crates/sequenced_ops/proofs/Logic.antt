@@ -1,7 +1,7 @@
 -- Facts of plain logic, for the steps of the loops.
 use Rattle.std.proofs.Common.{◌↔◌, ◌⊎◌, inl, inr, Result, Ok, Err, IfOk, OnOk}
 
--- one part is replaced
+-- a part of an or is replaced by an equivalent one
 pub part_same : {A B C T : Type 0} → ((A ⊎ B) ↔ T) → (B ↔ C) → ((A ⊎ C) ↔ T)
 part_same h same = (
   λ x. h.0 (elim x [ inl a ↦ inl a | inr c ↦ inr (same.1 c) ]),
@@ -28,14 +28,14 @@ all_moved h more same = (
   λ t. more.1 (elim (h.1 t) [ inl a ↦ inl a | inr b ↦ inr (same.0 b) ]),
 )
 
--- nothing is left
+-- an or whose second part is false is its first part
 pub none_left : {A B T : Type 0} → ((A ⊎ B) ↔ T) → (B → ⊥) → (A ↔ T)
 none_left h none = (
   λ a. h.0 (inl a),
   λ t. elim (h.1 t) [ inl a ↦ a | inr b ↦ absurd (none b) ],
 )
 
--- nothing is there at first
+-- an or whose first part is false is its second part
 pub none_before : {A B T : Type 0} → (A → ⊥) → (B ↔ T) → ((A ⊎ B) ↔ T)
 none_before none h = (
   λ x. elim x [ inl a ↦ absurd (none a) | inr b ↦ h.0 b ],

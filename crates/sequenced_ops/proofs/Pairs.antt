@@ -42,7 +42,7 @@ pub record PairsLeft (conjuncts : List Cond) (old : List PeriodRow) (row : Keyed
   pub sound : (day : ℤ) (vs : List Value) → InSnapshot rows day vs → InSnapshot old day vs ⊎ InPairsWith row active day vs
   pub complete : (day : ℤ) (vs : List Value) → InPairsWith row active day vs → CanMeet conjuncts vs → InSnapshot rows day vs ⊎ InPairsWith row rest day vs
 
--- each of the active rows is kept, or it is left, or it is gone
+-- each of the active rows remains, or it is left, or it is gone
 abbrev pub Accounted : KeyedRow → List KeyedRow → List KeyedRow → List KeyedRow → Type 0
 Accounted row active kept rest = (other : KeyedRow) → Contains active other → (Contains kept other ⊎ (Contains rest other ⊎ HasExpired other row))
 
@@ -138,7 +138,7 @@ module _ (conjuncts : List Cond) (old : List PeriodRow) (row : KeyedRow) (active
     ];
   }
 
--- the next active row is kept
+-- the next active row remains
 pub accounted_kept :
     (row other : KeyedRow) (active kept rest : List KeyedRow) → Accounted row active kept (other ∷ rest)
     → Accounted row active (kept ++ other ∷ []) rest

@@ -20,7 +20,7 @@ append-nil : (l : List Value) → l ++ [] ≡ l
 append-nil [] = refl
 append-nil (x ∷ xs) = ap (λ (l : List Value). x ∷ l) (append-nil xs)
 
--- the projection of a set is that of the same set
+-- equal sets have equal projections
 pub projection_same
     : (columns : List ℕ) (A B : ℤ → List Value → Type 0) (rows : List PeriodRow)
     → ((day : ℤ) (values : List Value) → (A day values ↔ B day values))
@@ -32,7 +32,7 @@ projection_same columns A B rows same are day read = (
   λ (values, there, reads). (are day read).1 (values, (same day values).1 there, reads),
 )
 
--- no reference is left
+-- a join of no further reference
 pub joined_none
     : (tables : List (List PeriodRow)) (conjuncts : List Cond) (rows : List PeriodRow) (day : ℤ)
     → (values : List Value)
@@ -45,7 +45,7 @@ joined_none tables conjuncts rows day values = (
       (subst (λ (v : List Value). InSnapshot rows day v) same there, met),
 )
 
--- one reference more
+-- a join with one reference more
 pub joined_more
     : (tables : List (List PeriodRow)) (conjuncts : List Cond) (rows next : List PeriodRow)
     → (reference : QueryReference) (more : List QueryReference)
@@ -79,7 +79,7 @@ joined_more tables conjuncts rows next reference more pruned day values = (
       ),
 )
 
--- the last reference
+-- a join with the last reference
 pub joined_last
     : (tables : List (List PeriodRow)) (conjuncts : List Cond) (rows pairs : List PeriodRow)
     → (reference : QueryReference)

@@ -10,7 +10,7 @@ use Rattle.sequenced_ops.specs.Operations.{AddsProjection, Cond, InProjection, I
 use Rattle.sequenced_ops.specs.Sweeping.{RowHolds}
 use Rattle.sequenced_ops.proofs.TwoRows.{holds-cons, holds-nil, holds-push}
 
--- the rows kept already, and the selection of the rest, are the selection of all
+-- the rows selected already, and the selection of the rest, are the selection of all
 abbrev pub SelectionLeft : Cond → List PeriodRow → List PeriodRow → List PeriodRow → Type 0
 SelectionLeft condition rows kept rest =
     (day : ℤ) (vs : List Value) → ((InSnapshot kept day vs ⊎ InSelection condition rest day vs) ↔ InSelection condition rows day vs)
@@ -27,7 +27,7 @@ row_accepted condition row rest met day vs = (
   ],
 )
 
--- the next row does not
+-- the next row does not meet the condition
 pub row_refused :
     (condition : Cond) (row : PeriodRow) (rest : List PeriodRow) → meets condition row.values ≡ false → (day : ℤ) (vs : List Value)
     → (InSelection condition (row ∷ rest) day vs ↔ InSelection condition rest day vs)

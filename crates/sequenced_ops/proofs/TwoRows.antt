@@ -1,4 +1,4 @@
--- Two rows, by their values and days, and the values that a list holds beside one row.
+-- Two rows, by their values and days, and the values that a list holds if one row is left out.
 use Rattle.std.proofs.Common.{◌≡◌, ◌<ℤ◌, ◌≤ℤ◌, ◌↔◌, ℤ, List, [], ◌∷◌, ◌++◌, sym, ◌∙◌, ap, subst, inl, inr, ◌⊎◌, arith}
 use Rattle.std.specs.List.{Contains}
 use Rattle.std.specs.declared.cmp.Ordering.TheVariants.{Less, Equal}
@@ -13,7 +13,7 @@ use Rattle.temporal_model.proofs.Members.{Contains-here, Contains-there, Contain
 use Rattle.temporal_model.proofs.Snapshots.{held, in_snapshot, values_on-append}
 use Rattle.sequenced_ops.specs.Sweeping.{RowHolds, Precedes, IsDisjoint}
 
--- ---- the values that a list holds beside one row
+-- ---- the values that a list holds if one row is left out
 
 pub holds-nil : (day : ℤ) (vs : List Value) → InSnapshot [] day vs → ⊥
 holds-nil day vs h = Contains-nil vs h
@@ -54,7 +54,7 @@ holds-push rows row day vs = (
       ]),
 )
 
--- ---- rows that precede others
+-- ---- rows that precede all rows of a list
 
 pub Precedes-apart : (a b : PeriodRow) → a.values ≡ b.values → Precedes a b → a.period.end ≤ℤ b.period.start
 Precedes-apart a b e (inl less) =

@@ -45,7 +45,7 @@ column_on Right equality = equality.right
 abbrev pub columns_on : Side → List Equality → List ℕ
 columns_on side equalities = map (column_on side) equalities
 
--- the key of values: a first integer is kept apart, and a first date has its number
+-- the key of values: a first integer is held apart, and a first date has its number
 -- there too; of values of one length no two have the same key
 abbrev pub key_of : List Value → JoinKey
 key_of [] = record { lead = pos 0; rest = [] }
@@ -53,7 +53,7 @@ key_of (Int number ∷ values) = record { lead = number; rest = values }
 key_of (Text text ∷ values) = record { lead = pos 0; rest = Text text ∷ values }
 key_of (Date day ∷ values) = record { lead = day; rest = Date day ∷ values }
 
--- by the lead, then by the rest
+-- the order of keys: by the lead, then by the rest
 abbrev pub key_cmp : JoinKey → JoinKey → Ordering
 key_cmp a b = ordering_then (int_cmp a.lead b.lead) (values_cmp a.rest b.rest)
 
@@ -73,12 +73,12 @@ PairHolds first second day values =
     (first.key ≡ second.key) × InPeriod first.period day × InPeriod second.period day
     × (first.values.now ++ second.values.now ≡ values)
 
--- a pair of a row of this side and another, that of the left side first
+-- a pair of a row of this side and one of the other, the left side's first
 abbrev pub SidedPair : Side → KeyedRow → KeyedRow → ℤ → List Value → Type 0
 SidedPair Left row other day values = PairHolds row other day values
 SidedPair Right row other day values = PairHolds other row day values
 
--- the values of a pair of the row and one of the others
+-- the values of a pair of the row and a row of the list
 abbrev pub InPairsWith : KeyedRow → List KeyedRow → ℤ → List Value → Type 0
 InPairsWith row others day values =
     (other : KeyedRow) × Contains others other × SidedPair row.side row other day values

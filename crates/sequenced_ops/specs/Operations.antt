@@ -78,7 +78,7 @@ InPairs left right day values =
     (first : List Value) × (second : List Value)
     × InSnapshot left day first × InSnapshot right day second × (first ++ second ≡ values)
 
--- of these those that meet the condition
+-- the pairs that meet the condition
 abbrev pub InJoin : Cond → List PeriodRow → List PeriodRow → ℤ → List Value → Type 0
 InJoin condition left right day values =
     InPairs left right day values × IsTrue (meets condition values)

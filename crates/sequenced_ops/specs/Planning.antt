@@ -52,7 +52,7 @@ HasWidth width rows =
 
 -- ---- joins
 
--- the positions are those of the equality, in a row of the left side, which has `width` values,
+-- the positions are the equality's, in a row of the left side, which has `width` values,
 -- and one of the right side, which has `more`
 pub record IsColumnPair (width more left right : ℕ) (equality : Equality) : Type 0 where
   pub left_is : equality.left ≡ left

@@ -21,7 +21,7 @@ Precedes a b =
     (values_cmp a.values b.values ≡ Less)
     ⊎ ((a.values ≡ b.values) × (a.period.end ≤ℤ b.period.start))
 
--- in order, and without overlaps of value-equivalent rows
+-- rows in order, and without overlaps of value-equivalent rows
 abbrev pub IsDisjoint : List PeriodRow → Type 0
 IsDisjoint = AllPairs Precedes
 

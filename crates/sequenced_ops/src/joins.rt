@@ -58,7 +58,7 @@ fn push_joined(
     Ok(())
 }
 
-// Adds the pair of the row and one of the other side, that of the left side first.
+// Adds the pair of the row and one of the other side, the left side's first.
 fn push_pair(
     alloc: Global,
     conjuncts: &[Cond],

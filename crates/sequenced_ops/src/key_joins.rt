@@ -34,7 +34,7 @@ fn width_of(rows: &[PeriodRow]) -> Option<usize>
     Some(width)
 }
 
-/// The equality of these two positions, if the first is one of the left side, whose rows have
+/// The equality of two positions, if the first is one of the left side, whose rows have
 /// `width` values, and the second one of the right side, whose rows have `more`.
 fn column_pair(left: usize, right: usize, width: usize, more: usize) -> Option<Equality>
     ensures { IfSome result (IsColumnPair width more left right) }

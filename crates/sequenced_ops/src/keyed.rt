@@ -19,7 +19,7 @@ pub enum Side {
     Right,
 }
 
-/// The values by which a row is joined. A first integer is kept in place, so that most comparisons
+/// The values by which a row is joined. A first integer is in the key itself, so most comparisons
 /// read no other memory.
 #[derive(Drop, PartialEq, Eq, PartialOrd, Ord)]
 pub struct JoinKey {
@@ -42,7 +42,7 @@ pub struct KeyedRow<'a> {
     pub values: &'a Values,
 }
 
-/// A key of this lead, whose rest is the values at these positions: `None` if one is not there.
+/// A key with this lead, whose rest is the values at these positions: `None` if one is missing.
 fn read_rest(
     alloc: Global,
     lead: &i64,
@@ -59,7 +59,7 @@ fn read_rest(
     Ok(Some(JoinKey { lead: *lead, rest }))
 }
 
-/// The key of a row whose key has its values at these positions: `None` if one is not there.
+/// The key of a row whose key has its values at these positions: `None` if one is missing.
 fn read_key(alloc: Global, columns: &[usize], values: &[Value]) -> Result<Option<JoinKey>, Memory>
     ensures { IfOk result (λ found. MatchOption found
         ((read : List ColumnValue) → ReadsColumns columns.now values.now read → ⊥)

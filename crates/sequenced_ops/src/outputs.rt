@@ -29,7 +29,7 @@ const BATCH: usize = 4_096;
 /// Up to this many selected rows are not coalesced.
 const FEW: usize = 49_152;
 
-/// The rows, coalesced if they are many and have no room for `more` others. There is then room
+/// The rows, coalesced if they are many and have no room for `more` rows. There is then room
 /// for as many again, so that coalescing takes no more time than the sort of the answer does.
 fn with_room(alloc: Global, rows: Vec<PeriodRow>, more: usize) -> Result<Vec<PeriodRow>, Memory>
     ensures { IfOk result (λ roomy. Equivalent rows.items roomy.items) }

@@ -58,7 +58,7 @@ fn join_all(
     join_all(alloc, tables, conjuncts, columns, next.as_slice(), more)
 }
 
-/// The rows of the first reference, joined with the others from left to right, as `join_all` gives
+/// The rows of the first reference, joined with the rest from left to right, as `join_all` gives
 /// them. Rows that the conditions on the first reference alone rule out are left out before.
 fn join_references(
     alloc: Global,

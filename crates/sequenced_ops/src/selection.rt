@@ -28,7 +28,7 @@ pub fn select_into(
         ↔ (InSnapshot rows.old.items day values
         ⊎ IsSelectedOn condition.now columns.now row.now day values))) }
 
-    // After what was there comes at most the row's projection, and nothing else.
+    // At most the row's projection is added, at the end.
     ensures behind { OnOk result (AddsProjection (meets condition.now) columns.now row.now
         rows.old.items rows.new.items) }
     ensures kept { OnErr result (rows.new.items ≡ rows.old.items) }

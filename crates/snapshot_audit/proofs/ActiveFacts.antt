@@ -58,7 +58,7 @@ AreActive-more rows active day row r is covers are other = (
   ],
 )
 
--- one more that does not
+-- one row more, which does not hold on the day
 pub AreActive-skip :
     (rows : List PeriodRow) (active : RowReferences) (day : ℤ) (row : PeriodRow) → (CoversDay row day → ⊥)
     → AreActive rows active day → AreActive (rows ++ row ∷ []) active day
@@ -72,7 +72,7 @@ AreActive-skip rows active day row none are other = (
 
 -- ---- the values of rows
 
--- one more row's values
+-- the active rows' values, with one more row's
 pub InActive-more :
     (set : List (List Value)) (active : RowReferences) (r : Bor PeriodRow)
     → ((values : List Value) → (Contains set values ↔ InActive active values)) → (values : List Value)
@@ -117,7 +117,7 @@ seen_alike tables seen day all reference =
     (zip_at (λ rows active. AreActive rows active day) [] [] (AreActive-none day) tables (active_lists seen) reference.place
     (zip_map (λ rows active. AreActive rows active day) (λ (v : Vec (Bor PeriodRow)). v.items) tables seen all))
 
--- so the query's set by them is that of the day
+-- the query's set by the active rows is the day's set
 pub answered_alike :
     (tables : List (List PeriodRow)) (seen : ActiveLists) (day : ℤ) → AllAreActive tables seen day
     → (query : Query) (row : List Value) → (InQuery (VisibleInActive seen) query row ↔ InAnswerOver query tables day row)

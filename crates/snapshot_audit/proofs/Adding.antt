@@ -1,4 +1,4 @@
--- Rows that are added to others: one pair more, one entry more, and the pairs of both sides.
+-- Rows that are added to a list: one pair more, one entry more, and the pairs of both sides.
 use Rattle.std.proofs.Common.{◌≡◌, ◌⊎◌, ◌≤ℤ◌, ◌<ℤ◌, ℕ, ℤ, true, false, List, [], ◌∷◌, ◌++◌, refl, sym, ◌∙◌, subst, inl, inr, arith}
 use Rattle.std.specs.List.{All, Contains}
 use Rattle.std.proofs.lemmas.Int.{ints, by_lt_z}
@@ -37,7 +37,7 @@ adds_none May Must rows none = record {
   all = λ day row must. absurd (none day row must);
 }
 
--- once more
+-- rows that add sets twice add both together
 pub adds_more :
     (A M B N C O : Sets) (old mid new : List PeriodRow) → ((day : ℤ) (row : List Value) → A day row → C day row)
     → ((day : ℤ) (row : List Value) → B day row → C day row) → ((day : ℤ) (row : List Value) → O day row → (M day row ⊎ N day row))
@@ -54,7 +54,7 @@ adds_more A M B N C O old mid new first second split one two = record {
   ];
 }
 
--- adding to weaker sets
+-- rows that add sets add weaker ones
 pub adds_weaker :
     (A M C O : Sets) (old new : List PeriodRow) → ((day : ℤ) (row : List Value) → A day row → C day row)
     → ((day : ℤ) (row : List Value) → O day row → M day row) → Adds A M old new → Adds C O old new
@@ -64,7 +64,7 @@ adds_weaker A M C O old new first second one = record {
   all = λ day row must. one.all day row (second day row must);
 }
 
--- to rows of the same snapshots
+-- sets that are added to rows are added to any rows with the same snapshots
 pub adds_to_same : (A M : Sets) (old same new : List PeriodRow) → Equivalent old same → Adds A M same new → Adds A M old new
 adds_to_same A M old same new alike one = record {
   kept = λ day row h. one.kept day row ((alike day row).0 h);
@@ -72,7 +72,7 @@ adds_to_same A M old same new alike one = record {
   all = one.all;
 }
 
--- one row
+-- the snapshot of rows with one more
 pub snapshot_push :
     (rows : List PeriodRow) (row : PeriodRow) (day : ℤ) (values : List Value) → InSnapshot (rows ++ row ∷ []) day values
     → (InSnapshot rows day values ⊎ ((row.values ≡ values) × InPeriod row.period day))
@@ -99,7 +99,7 @@ snapshot_last rows row day values same inside =
 -- ---- a pair
 
 module _ (select : Select) (output : CombinedOutput) (first second : PeriodRow) (rows : List PeriodRow) where
-  -- the rows share no day
+  -- a pair of rows that share no day adds nothing
   pub pair_apart :
       ((day : ℤ) → InPeriod first.period day → InPeriod second.period day → ⊥)
       → Adds (InPair select output first second) (InMeetingPair select output first second) rows rows
@@ -131,12 +131,12 @@ module _ (select : Select) (output : CombinedOutput) (first second : PeriodRow) 
     all = λ day row (can, (a, b, k)). snapshot_last rows added day row (one row k) (both day a b);
   }
 
--- the kept values are determined
+-- the values of a combined row are determined
 pub kept_one : (select : Select) (output : CombinedOutput) (values row other : List Value) → IsKept select output values row → IsKept select output values other → row ≡ other
 kept_one select Front values row other p q = sym p ∙ q
 kept_one select SelectList values row other p q = same_values row other (sym p.1 ∙ q.1)
 
--- ---- each of the others
+-- ---- each entry of the other side
 
 module _ (May Must : KeyedEntry → KeyedEntry → Sets) (entry : KeyedEntry) (old : List PeriodRow) where
   pub each_none : Adds (InEach May entry []) (InEach Must entry []) old old
@@ -185,7 +185,7 @@ sided_days :
 sided_days select output First entry other day row (can, (a, b, its)) = (a, b)
 sided_days select output Second entry other day row (can, (a, b, its)) = (b, a)
 
--- all others that begin within the entry are added with the partners
+-- all entries that begin within the entry are added with the partners
 pub partners_are_all :
     (select : Select) (output : CombinedOutput) (side : EntrySide) (entry : KeyedEntry) (others partners : List KeyedEntry) (rows new : List PeriodRow)
     → HasPeriod entry → All HasPeriod others

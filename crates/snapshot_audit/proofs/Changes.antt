@@ -28,7 +28,7 @@ HasEnds-none old day = (
   λ h. elim h [ inl k ↦ k | inr ends ↦ absurd (Contains-nil ends.0 ends.1) ],
 )
 
--- one more row's start and end
+-- the ends of rows, with one more row's start and end
 pub HasEnds-more :
     (old : List ℤ) (rows : List PeriodRow) (days : List ℤ) (row : PeriodRow) → HasEnds old rows days
     → HasEnds old (rows ++ row ∷ []) ((days ++ row.period.start ∷ []) ++ row.period.end ∷ [])
@@ -62,7 +62,7 @@ HasEnds-more old rows days row has day = (
 abbrev pub HasEndsAmong : List ℤ → List (List PeriodRow) → List ℤ → Type 0
 HasEndsAmong old lists days = (day : ℤ) → (Contains days day ↔ (Contains old day ⊎ EndsAmong lists day))
 
--- more lists
+-- the ends of the rows of two parts of the lists
 pub HasEndsAmong-both :
     (old : List ℤ) (left right : List (List PeriodRow)) (days more : List ℤ) → HasEndsAmong old left days
     → HasEndsAmong days right more → HasEndsAmong old (left ++ right) more
@@ -83,7 +83,7 @@ HasEndsAmong-both old left right days more has next day = (
   ],
 )
 
--- the ends of one list
+-- the ends of the rows of one list
 HasEndsAmong-one : (old : List ℤ) (rows : List PeriodRow) (days : List ℤ) → HasEnds old rows days → HasEndsAmong old (rows ∷ []) days
 HasEndsAmong-one old rows days has day = (
   λ h. elim ((has day).0 h) [
@@ -96,7 +96,7 @@ HasEndsAmong-one old rows days has day = (
   ],
 )
 
--- one more list
+-- the ends of the rows of the lists so far, and one more
 pub HasEndsAmong-more :
     (old : List ℤ) (lists : List (List PeriodRow)) (rows : List PeriodRow) (days more : List ℤ)
     → HasEndsAmong old lists days → HasEnds days rows more → HasEndsAmong old (lists ++ rows ∷ []) more
@@ -107,7 +107,7 @@ HasEndsAmong-more old lists rows days more has ends =
 abbrev pub HasChangeDays : List (List PeriodRow) → List ℤ → Type 0
 HasChangeDays lists days = (day : ℤ) → (Contains days day ↔ IsChangeDay lists day)
 
--- 0001-01-01, the ends of the rows of one list, and those of the others
+-- 0001-01-01, the ends of the rows of one list, and the ends of the rest's
 pub HasChangeDays-from :
     (rows : List PeriodRow) (lists : List (List PeriodRow)) (days more : List ℤ)
     → HasEnds (first_day ∷ []) rows days → HasEndsAmong days lists more → HasChangeDays (rows ∷ lists) more
@@ -125,7 +125,7 @@ HasChangeDays-from rows lists days more has next day =
 
 -- ---- the last change day up to a day
 
--- the greatest of these days that is no later than the day: none lies after it and up to the day
+-- the greatest of the days that is no later than the day: none lies after it and up to the day
 pub record IsLastUpTo (days : List ℤ) (day last : ℤ) : Type 0 where
   pub inside : Contains days last
   pub upto : last ≤ℤ day

@@ -66,7 +66,7 @@ module _ (query : Query) (lists : List (List PeriodRow)) (answer : List PeriodRo
     differs = λ h. (is_day, (values, differs));
   }
 
-  -- one more row: its start and its end
+  -- the differences, with one more row's start and end
   pub checks_row :
       (rows : List PeriodRow) (row : PeriodRow) (least mid then result : Option ℤ) → Checks query lists answer (ChangesOn rows) least mid
       → Checks query lists answer (IsAt row.period.start row.values) mid then → Checks query lists answer (IsAt row.period.end row.values) then result
@@ -85,7 +85,7 @@ module _ (query : Query) (lists : List (List PeriodRow)) (answer : List PeriodRo
       (checks_more (IsAt row.period.start row.values) (IsAt row.period.end row.values)
       (λ day values. IsAt row.period.start row.values day values ⊎ IsAt row.period.end row.values day values) mid then result (λ day values h. h) start end)
 
-  -- one more list
+  -- the differences in the lists so far, and one more
   pub checks_list :
       (done : List (List PeriodRow)) (rows : List PeriodRow) (least mid result : Option ℤ) → Checks query lists answer (ChangesOnAny answer done) least mid
       → Checks query lists answer (ChangesOn rows) mid result → Checks query lists answer (ChangesOnAny answer (done ++ rows ∷ [])) least result

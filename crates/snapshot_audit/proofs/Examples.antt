@@ -28,7 +28,7 @@ seven = Int (pos 7) ∷ []
 abbrev seven_over : (start end : ℤ) → are_ends start end ≡ true → PeriodRow
 seven_over start end ends = record { values = seven; period = period_over start end ends }
 
--- from day 1 to day 3, from day 3 to day 5, from day 1 to day 5, from day 1 to day 9
+-- rows from day 1 to day 3, from day 3 to day 5, from day 1 to day 5, from day 1 to day 9
 abbrev early : PeriodRow
 early = seven_over (pos 1) (pos 3) refl
 
@@ -101,7 +101,7 @@ meeting-counted = record {
 
 -- ---- sets
 
--- values that two rows hold are there once in the set
+-- values that two rows hold are once in the set
 held_twice-once : ListsSet (InSnapshot (early ∷ whole ∷ []) (pos 2)) (seven ∷ [])
 held_twice-once = record {
   ascending = λ i j d lt below. absurd (omega arith);

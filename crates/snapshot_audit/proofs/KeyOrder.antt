@@ -29,11 +29,11 @@ use Rattle.snapshot_audit.proofs.Staggering.{before_cases, before_less, before_s
 abbrev some : Value → Option Value
 some v = Some v
 
--- a read key is determined
+-- the key of a row is unique
 pub same_key : (columns : List ℕ) (values key other : List Value) → Reads columns values key → Reads columns values other → key ≡ other
 same_key columns values key other p q = same_values key other (sym p ∙ q)
 
--- one position more
+-- the key so far, with one position more
 pub reads_more :
     (columns : List ℕ) (values key : List Value) (i column : ℕ) (value : Value) → i < length columns → column ≡ get_or columns i 0
     → slice_get values column ≡ Some value → Reads (take i columns) values key → Reads (take (i + 1) columns) values (key ++ value ∷ [])
@@ -42,7 +42,7 @@ reads_more columns values key i column value h is there old =
     ∙ ap₂ (λ (a : List (Option Value)) (b : Option Value). a ++ b ∷ []) old (ap (slice_get values) (sym is) ∙ there)
     ∙ sym (map-append some key (value ∷ []))
 
--- a position without a value
+-- a position without a value has no key
 pub no_value :
     (columns : List ℕ) (values key : List Value) (i column : ℕ) → i < length columns → slice_get values (get_or columns i column) ≡ None
     → Reads columns values key → ⊥
@@ -165,7 +165,7 @@ by_key_from columns rows entries sorted are moved up = record {
 
 -- ---- the place of an entry
 
--- whether the entry precedes those of this key that begin on the day or later
+-- whether the entry precedes the entries of this key that begin on the day or later
 abbrev pub entry_before : List Value → ℤ → KeyedEntry → Bool
 entry_before key day entry = comes_before entry.key entry.period.start key day
 
@@ -212,7 +212,7 @@ entry_between entry entries first last from to other (key, starts, ends) k insid
   ],
 )
 
--- so it is in the list from the first to the last
+-- an entry between the first and the last is in the list
 pub contains_between :
     (entries : List KeyedEntry) (first last : ℕ) (other : KeyedEntry) (k : ℕ) → first ≤ k → k < last → k < length entries → get_or entries k other ≡ other
     → Contains (take (last - first) (drop first entries)) other

@@ -1,4 +1,4 @@
--- Rows with gaps: they are read off neighbours, and each of them begins anew.
+-- Rows with gaps: two neighbours show a gap, and after it each row begins anew.
 use Rattle.std.proofs.Common.{◌≡◌, ◌<ℤ◌, ◌-ℤ◌, pos, ℕ, ◌+◌, ◌-◌, ◌<◌, ◌≤◌, zero, suc, List, length, get_or, Some, refl, sym, ◌∙◌, ap, subst, inl, inr, arith}
 use Rattle.std.specs.List.{slice_get}
 use Rattle.std.specs.Ordering.{int_cmp, ordering_then, ordering_reverse}
@@ -58,7 +58,7 @@ gaps_more rows place a b some inside at next gap below k d h =
           subst (IsBeforeWithGap (get_or rows k d)) second (subst (λ r. IsBeforeWithGap r b) first gap)
     ]
 
--- and so before each later one
+-- a row with a gap before the next one is before each later one
 gaps_far :
     (rows : List PeriodRow) → GapsBelow rows (length rows) → (i m : ℕ) (d : PeriodRow) → i + m + 1 < length rows
     → IsBeforeWithGap (get_or rows i d) (get_or rows (i + m + 1) d)

@@ -1,4 +1,4 @@
--- Sorted lists without repeats, and the sets that they stand for.
+-- Sorted lists without repeats, and the sets that they list.
 use Rattle.std.proofs.Common.{◌≡◌, ◌↔◌, List, [], ◌∷◌, Ordering, ap, ◌∙◌, arith}
 use Rattle.std.specs.List.{AllPairs, Contains}
 use Rattle.std.specs.List.Sorted.{IsStrictlySortedBy}

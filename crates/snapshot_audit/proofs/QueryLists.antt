@@ -82,7 +82,7 @@ adds_select tables select old rows list agrees staggered same = (
   ),
 )
 
--- to no lists
+-- the rows of a query are added to no lists
 pub adds_alone :
     (tables : List (List PeriodRow)) (query : Query) (old new : List (List PeriodRow)) → old ≡ [] → AddsRowsOf tables query old new
     → AreRowsOf tables query new

@@ -18,7 +18,7 @@ slice_get-right [] ys p q h e = ap (slice_get ys) (omega arith)
 slice_get-right (x ∷ xs) ys zero q h e = absurd (omega arith)
 slice_get-right (x ∷ xs) ys (suc p) q h e = slice_get-right xs ys p q (omega arith) (omega arith)
 
--- a value of the first
+-- the value at a position of the first row
 pub in_front :
     (front next rest : List Value) (p : ℕ) (value : Value) → p < length front → value ≡ get_or front p value
     → slice_get ((front ++ next) ++ rest) p ≡ Some value

@@ -18,7 +18,7 @@ use Rattle.snapshot_audit.specs.Selections.{InRest, InRestOn, IsSelected}
 use Rattle.snapshot_audit.specs.Verdicts.{AgreesAlways}
 use Rattle.snapshot_audit.proofs.SelectSteps.{rest_none}
 
--- a combined row goes on with values that the first reference sees, and then with those of the others
+-- a combined row continues with values that the first reference sees, and then with the later ones' values
 abbrev InRestAfter : VisibleRows → Select → QueryReference → List QueryReference → List Value → List Value → Type 0
 InRestAfter Sees select reference more front row =
     (next : List Value) × Sees reference next × InRest Sees select more (front ++ next) row
@@ -81,7 +81,7 @@ module _ (tables : List (List PeriodRow)) (select : Select) (reference : QueryRe
         ),
   )
 
--- from one row of no values over all days
+-- the rows of a select, from one row of no values over all days
 pub rest_all :
     (tables : List (List PeriodRow)) (select : Select) (front : PeriodRow) (result : List PeriodRow) → front.values ≡ []
     → front.period.start ≡ first_day → front.period.end ≡ last_day

@@ -16,7 +16,7 @@ use Rattle.snapshot_audit.specs.Selections.{IsSelected, InRest, InRests}
 
 -- ---- the values of items
 
--- the first element of a list and the others, as a pattern of a slice reads them
+-- the first element of a list and the rest, as a pattern of a slice reads them
 pub first_of : {X : Type 0} (xs : List X) (x : X) → 1 ≤ length xs → x ≡ get_or xs 0 x → xs ≡ x ∷ take (length xs - 1) (drop 1 xs)
 first_of [] x h e = absurd (omega arith)
 first_of (y ∷ ys) x h e =
@@ -26,7 +26,7 @@ first_of (y ∷ ys) x h e =
 abbrev pub some : Value → Option Value
 some v = Some v
 
--- one item more
+-- the select list's row so far, with one item more
 pub projected_more :
     (items : List AnswerColumn) (values row : List Value) (i : ℕ) (item : AnswerColumn) (value : Value) → i < length items
     → item ≡ get_or items i item → slice_get values item.position ≡ Some value → IsProjection (take i items) values row
@@ -36,7 +36,7 @@ projected_more items values row i item value h is there old =
     ∙ ap₂ (λ (a : List (Option Value)) (b : Option Value). a ++ b ∷ []) old (ap (λ (x : AnswerColumn). slice_get values x.position) (sym is) ∙ there)
     ∙ sym (map-append some row (value ∷ []))
 
--- an item without a value
+-- an item without a value gives no row
 pub no_value :
     (items : List AnswerColumn) (values row : List Value) (i : ℕ) (item : AnswerColumn) → i < length items
     → slice_get values (get_or items i item).position ≡ None → IsProjection items values row → ⊥
@@ -91,7 +91,7 @@ rest_none Sees select front row = (
   λ (rest, none, its). subst (λ vs. IsSelected select vs row) (append-nil front) (subst (λ r. IsSelected select (front ++ r) row) none its),
 )
 
--- a combined row continues with a row of the first reference, and then with those of the others
+-- a combined row continues with a row of the first reference, and then with the later ones' rows
 pub rest_more :
     (seen : ActiveLists) (select : Select) (reference : QueryReference) (more : List QueryReference) (front row : List Value)
     → (InRests (VisibleInActive seen) select more front (active_for seen reference) row
@@ -164,7 +164,7 @@ HasRests-skip seen select more front old rows active r has none =
       ],
     ))
 
--- once all rows of the first reference are done
+-- the rows of a select once all rows of the first reference are done
 pub HasRests-all :
     (seen : ActiveLists) (select : Select) (reference : QueryReference) (more : List QueryReference) (front : List Value)
     (old rows : List (List Value)) → HasRests seen select more front old (active_for seen reference) rows → (row : List Value)
@@ -175,7 +175,7 @@ HasRests-all seen select reference more front old rows has row =
       λ h. (has row).1 (elim h [ inl was ↦ inl was | inr its ↦ inr (both.1 its) ]),
     )
 
--- once no reference is left
+-- the rows of a select if no reference is left
 pub rest_done :
     (Sees : VisibleRows) (select : Select) (front : List Value) (old rows : List (List Value))
     → ((row : List Value) → (Contains rows row ↔ (Contains old row ⊎ IsSelected select front row))) → (row : List Value)
@@ -186,7 +186,7 @@ rest_done Sees select front old rows step row =
       λ h. (step row).1 (elim h [ inl was ↦ inl was | inr its ↦ inr (both.1 its) ]),
     )
 
--- of all references, from no values on
+-- the rows of a select from all references, from no values on
 pub selected_all :
     (seen : ActiveLists) (select : Select) (old rows : List (List Value)) → old ≡ []
     → ((row : List Value) → (Contains rows row ↔ (Contains old row ⊎ InRest (VisibleInActive seen) select select.references [] row)))

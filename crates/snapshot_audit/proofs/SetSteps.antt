@@ -17,7 +17,7 @@ use Rattle.snapshot_audit.specs.Sets.{IsAscending, ListsSet, NoneBelow}
 not_less_itself : (values : List Value) → values_cmp values values ≡ Less → ⊥
 not_less_itself values less = let tie : values_cmp values values ≡ Equal = values_cmp-refl values in cc
 
--- the first of the others, of which none is less, are the values, or they are not among them
+-- the first of the right set, none of which is less, are the values, or they are not in it
 pub first_alone :
     (values first : List Value) (others : List (List Value)) → IsAscending (first ∷ others) → NoneBelow values (first ∷ others)
     → Contains (first ∷ others) values → first ≡ values
@@ -26,7 +26,7 @@ first_alone values first others up none c = elim (Contains-cons_cases first othe
   | inr more ↦ absurd (none first (Contains-here first others) (AllPairs-head (λ a b. values_cmp a b ≡ Less) first others up values more))
 ]
 
--- the right set is done up to the rest: all before that is less than each that comes
+-- the right set is done up to the rest: all before the rest is less than each that comes
 pub record IsDoneWith (right others rest : List (List Value)) : Type 0 where
   pub ascending : IsAscending others
   pub inside : (other : List Value) → Contains others other → Contains right other
@@ -77,7 +77,7 @@ among_right right others next rest values is by = (
 abbrev pub Lacks : List (List Value) → List Value → Type 0
 Lacks right values = Contains right values → ⊥
 
--- the values of the left set so far that are kept
+-- the values of the done part of the left set that remain
 pub record AreKept (Keeps : List Value → Type 0) (done rest set : List (List Value)) : Type 0 where
   pub ascending : IsAscending set
   pub below : (a b : List Value) → Contains set a → Contains rest b → values_cmp a b ≡ Less
@@ -130,7 +130,7 @@ one_dropped Keeps done rest set values drops is = record {
 
 -- ---- the whole of it
 
--- of the left set what is done and what is left, of the right set the others, and the values kept
+-- of the left set what is done and what is left, of the right set the rest, and the remaining values
 pub record ArePicked (Keeps : List Value → Type 0) (left right done rest others set : List (List Value)) : Type 0 where
   pub all : done ++ rest ≡ left
   pub ascending : IsAscending rest

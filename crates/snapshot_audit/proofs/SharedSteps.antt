@@ -23,7 +23,7 @@ use Rattle.snapshot_audit.specs.Pairs.{ReadSame}
 use Rattle.snapshot_audit.proofs.KeyOrder.{reads_push}
 use Rattle.snapshot_audit.proofs.Ruling.{slice_get-left, slice_get-right}
 
--- the columns of both positions
+-- the shared columns, with those at two more positions
 pub columns_more :
     (width more left right : ℕ) (old new : SharedColumns) → left < width → width ≤ right → right - width < more
     → new.first.items ≡ old.first.items ++ left ∷ [] → new.second.items ≡ old.second.items ++ (right - width) ∷ []
@@ -39,7 +39,7 @@ columns_more width more left right old new below above within f s first second r
       subst (λ l. Reads l second (key ++ value ∷ [])) (sym s) (reads_push old.second.items (right - width) second key value q b),
     )
 
--- two sides that are equal are there and the same
+-- two sides that are equal exist and are the same
 is_tie : (o : Ordering) → is_eq o ≡ true → o ≡ order.Equal
 is_tie order.Less e = cc
 is_tie order.Equal e = refl
@@ -50,7 +50,7 @@ same_value None right e = absurd (cc)
 same_value (Some left) None e = absurd (cc)
 same_value (Some left) (Some right) e = (left, refl, ap (λ (v : Value). Some v) (sym (value_cmp-same left right (is_tie (value_cmp left right) e))))
 
--- the comparison of two positions
+-- an equality of two positions compares their values
 positions_compared :
     (test : CompareValues) (left right : ℕ) (row : List Value) → test.comparison ≡ Equal → test.left ≡ Position left → test.right ≡ Position right
     → compares row test ≡ true → compared Equal (slice_get row left) (slice_get row right) ≡ true
@@ -59,7 +59,7 @@ positions_compared test left right row is one two met =
     (subst (λ (l : Comparand). compared Equal (side_value l row) (side_value test.right row) ≡ true) one
     (subst (λ (k : Comparison). compared k (side_value test.left row) (side_value test.right row) ≡ true) is met))
 
--- of an equality the columns if one is of each side
+-- the shared columns, with an equality's if one is of each side
 pub test_more :
     (width more : ℕ) (test : CompareValues) (left right : ℕ) (old mid new : SharedColumns) → test.comparison ≡ Equal → test.left ≡ Position left
     → test.right ≡ Position right → ReadsMore width more (IsSameAt left right) old mid → ReadsMore width more (IsSameAt right left) mid new
@@ -77,7 +77,7 @@ passes_at p xs i d inside all = elim (p (get_or xs i d)) as (λ b. p (get_or xs 
   | false ↦ λ e. absurd (let no : list_all p xs ≡ false = list_all_at p xs i d inside e in cc)
 ] refl
 
--- one condition more
+-- the shared columns of the conditions so far, and of one more
 pub condition_more :
     (select : Select) (width more i : ℕ) (condition : Tree CompareValues) (old new : SharedColumns) → i < length select.conjuncts
     → condition ≡ get_or select.conjuncts i condition → ReadSame select width more old

@@ -48,7 +48,7 @@ certified_from_sound rows ws all = record {
       (all j (get_or rows j d) below (slice_get-get_or rows j d below)).anew.first (get_or rows i d, earlier, same);
 }
 
--- the witnesses are those of the rows, if there are no spare ones
+-- the witnesses are the rows' witnesses, if there are no spare ones
 pub witnesses_from_sound :
     (rows : List PeriodRow) (ws : List Witness) → SoundBelow rows ws (length rows) → length ws ≤ length rows
     → ws ≡ map witness_of rows

@@ -92,7 +92,7 @@ staggered_push rows row before all = all_pairs_push IsStaggered rows row all (λ
       | inr not_less ↦ let is : n ≡ k = omega arith in subst (λ m. IsStaggered (get_or rows m d) row) is last_before
     ])
 
--- of the sorted rows what is done and what is left, and those that are kept
+-- of the sorted rows what is done and what is left, and the rows that remain
 pub record AreKept (sorted done rest kept : List PeriodRow) : Type 0 where
   pub all : done ++ rest ≡ sorted
   pub ordered : AllPairs InRowOrder rest
@@ -138,7 +138,7 @@ module _ (sorted done was rest kept : List PeriodRow) (row : PeriodRow) where
         )
       ]
 
-  -- a row that it holds
+  -- a row within the last one is left out
   pub kept_skip :
       was ≡ row ∷ rest → LastHolds kept row → AreKept sorted done was kept → AreKept sorted (done ++ row ∷ []) rest kept
   kept_skip is (last, there, same, ends) old =
@@ -176,7 +176,7 @@ kept_all sorted done rest kept none old =
 
 -- ---- the place of a row
 
--- the parts of `comes_before`
+-- `comes_before` of equal values compares the days
 pub before_same :
     (values others : List Value) (start day : ℤ) → values ≡ others → comes_before values start others day ≡ int_lt start day
 before_same values others start day same =

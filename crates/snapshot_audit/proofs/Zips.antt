@@ -3,7 +3,7 @@ use Rattle.std.proofs.Common.{◌≡◌, ◌<◌, ◌+◌, ℕ, zero, suc, List,
 use Rattle.std.specs.List.{AllZip, Contains}
 use Rattle.std.proofs.lemmas.List.{take_more, get_or-map, length-map}
 
--- one more pair
+-- a relation of two lists, with one more pair
 pub zip_push :
     {A B : Type 0} (R : A → B → Type 0) (xs : List A) (ys : List B) (x : A) (y : B) → AllZip R xs ys → R x y
     → AllZip R (xs ++ x ∷ []) (ys ++ y ∷ [])
@@ -12,7 +12,7 @@ zip_push R [] (b ∷ ys) x y all one = absurd all
 zip_push R (a ∷ xs) [] x y all one = absurd all
 zip_push R (a ∷ xs) (b ∷ ys) x y all one = (all.0, zip_push R xs ys x y all.1 one)
 
--- one element further
+-- a relation of the first elements of two lists, with one more pair
 pub zip_more :
     {A B : Type 0} (R : A → B → Type 0) (xs : List A) (ys : List B) (k : ℕ) (x : A) (y : B) → k < length xs
     → x ≡ get_or xs k x → AllZip R (take k xs) ys → R x y → AllZip R (take (k + 1) xs) (ys ++ y ∷ [])
@@ -32,7 +32,7 @@ zip_through R S T step (x ∷ xs) [] zs r s = absurd r
 zip_through R S T step (x ∷ xs) (y ∷ ys) [] r s = absurd s
 zip_through R S T step (x ∷ xs) (y ∷ ys) (z ∷ zs) r s = (step x y z r.0 s.0, zip_through R S T step xs ys zs r.1 s.1)
 
--- a weaker relation
+-- a relation of two lists implies a weaker one
 pub zip_weaker :
     {A B : Type 0} (R S : A → B → Type 0) → ((x : A) (y : B) → R x y → S x y)
     → (xs : List A) (ys : List B) → AllZip R xs ys → AllZip S xs ys
@@ -41,7 +41,7 @@ zip_weaker R S step [] (y ∷ ys) r = absurd r
 zip_weaker R S step (x ∷ xs) [] r = absurd r
 zip_weaker R S step (x ∷ xs) (y ∷ ys) r = (step x y r.0, zip_weaker R S step xs ys r.1)
 
--- at each place, if the relation holds of the defaults too
+-- a relation of two lists holds at each place, if it holds of the defaults too
 pub zip_at :
     {A B : Type 0} (R : A → B → Type 0) (d : A) (e : B) → R d e → (xs : List A) (ys : List B) (place : ℕ)
     → AllZip R xs ys → R (get_or xs place d) (get_or ys place e)
@@ -51,7 +51,7 @@ zip_at R d e none (x ∷ xs) [] place r = absurd r
 zip_at R d e none (x ∷ xs) (y ∷ ys) zero r = r.0
 zip_at R d e none (x ∷ xs) (y ∷ ys) (suc place) r = zip_at R d e none xs ys place r.1
 
--- by what is related to the second
+-- a relation of two lists, the second by its images
 pub zip_map :
     {A B C : Type 0} (R : A → C → Type 0) (f : B → C) (xs : List A) (ys : List B)
     → AllZip (λ x y. R x (f y)) xs ys → AllZip R xs (map f ys)

@@ -23,7 +23,7 @@ EndsAmong lists day = (rows : List PeriodRow) × Contains lists rows × EndsOn r
 abbrev pub IsChangeDay : List (List PeriodRow) → ℤ → Type 0
 IsChangeDay lists day = (first_day ≡ day) ⊎ EndsAmong lists day
 
--- the change days of the lists and no others, in ascending order, each once
+-- exactly the change days of the lists, in ascending order, each once
 pub record AreChangeDays (lists : List (List PeriodRow)) (days : List ℤ) : Type 0 where
   pub ascending : AllPairs (λ a b. a <ℤ b) days
   pub members : (day : ℤ) → (Contains days day ↔ IsChangeDay lists day)

@@ -20,7 +20,7 @@ abbrev pub select_count : Query → ℕ
 select_count (one select) = 1
 select_count (both operator left right) = select_count left + select_count right
 
--- the query's set on a day, if the first of these lists are those of its selects
+-- the query's set on a day, if the first lists are its selects'
 abbrev pub InLists : Query → List (List PeriodRow) → ℤ → List Value → Type 0
 InLists (one select) lists day values = InSnapshot (slice_index_or lists 0 []) day values
 InLists (both operator left right) lists day values =

@@ -16,7 +16,7 @@ Reads columns values key = map (slice_get values) columns ≡ map Some key
 abbrev pub HasPeriod : KeyedEntry → Type 0
 HasPeriod entry = entry.row.now.period ≡ entry.period
 
--- the key of the first precedes that of the second, or it is the same, and the first starts no
+-- the key of the first precedes the key of the second, or it is the same, and the first starts no
 -- later
 abbrev pub IsInOrder : KeyedEntry → KeyedEntry → Type 0
 IsInOrder entry other =
@@ -27,7 +27,7 @@ IsInOrder entry other =
 abbrev pub AreInOrder : List KeyedEntry → Type 0
 AreInOrder = AllPairs IsInOrder
 
--- the entries of the rows that have a key, and no others, in order
+-- exactly the entries of the rows that have a key, in order
 pub record AreByKey (columns : List ℕ) (rows : List PeriodRow) (entries : List KeyedEntry)
     : Type 0 where
   pub ordered : AreInOrder entries

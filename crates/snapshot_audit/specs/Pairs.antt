@@ -1,4 +1,4 @@
--- Pairs of rows that hold on the same days, and the values that are kept of them.
+-- Pairs of rows that hold on the same days, and the values that a select takes of them.
 use Rattle.std.specs.Prelude.{◌≡◌, ◌++◌, ◌⊎◌, ◌≤ℤ◌, ℕ, ℤ, List, Contains, length}
 use Rattle.period_core.specs.DaySets.{InPeriod}
 use Rattle.period_core.specs.declared.value.Value.{Value}
@@ -23,13 +23,13 @@ pub record Adds (InMay InMust : ℤ → List Value → Type 0) (old new : List P
       → (InSnapshot old day row ⊎ InMay day row)
   pub all : (day : ℤ) (row : List Value) → InMust day row → InSnapshot new day row
 
--- the values that are kept of two rows that both hold on the day
+-- the values of two rows that both hold on the day
 abbrev pub InPair : Select → CombinedOutput → PeriodRow → PeriodRow → ℤ → List Value → Type 0
 InPair select output first second day row =
     InPeriod first.period day × InPeriod second.period day
     × IsKept select output (first.values ++ second.values) row
 
--- the values that are kept of two rows that can meet the conditions
+-- the values of two rows that can meet the conditions
 abbrev pub InMeetingPair : Select → CombinedOutput → PeriodRow → PeriodRow → ℤ → List Value → Type 0
 InMeetingPair select output first second day row =
     CanMeet select (first.values ++ second.values) × InPair select output first second day row
@@ -42,13 +42,13 @@ abbrev pub Sided : (PeriodRow → PeriodRow → ℤ → List Value → Type 0)
 Sided InBoth First entry other = InBoth entry.row.now other.row.now
 Sided InBoth Second entry other = InBoth other.row.now entry.row.now
 
--- a set of the entry with one of the others
+-- a set of the entry with an entry of the list
 abbrev pub InEach : (KeyedEntry → KeyedEntry → ℤ → List Value → Type 0)
     → KeyedEntry → List KeyedEntry → ℤ → List Value → Type 0
 InEach InBoth entry others day row =
     (other : KeyedEntry) × Contains others other × InBoth entry other day row
 
--- a set of one of the entries with one of the others
+-- a set of one of the entries with one of the other list
 abbrev pub InAny : (KeyedEntry → KeyedEntry → ℤ → List Value → Type 0)
     → List KeyedEntry → List KeyedEntry → ℤ → List Value → Type 0
 InAny InBoth entries others day row =
@@ -79,7 +79,7 @@ ReadSame select width more columns =
     → (key : List Value)
     × Reads columns.first.items first key × Reads columns.second.items second key
 
--- the joined rows hold on each day what is kept of the values of a row of each side: at least of
+-- the joined rows hold on each day the outputs of a row of each side: at least of
 -- those that can meet the conditions
 pub record AreJoined (select : Select) (output : CombinedOutput)
     (rows others joined : List PeriodRow) : Type 0 where

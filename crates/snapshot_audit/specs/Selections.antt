@@ -36,14 +36,14 @@ abbrev pub CanMeet : Select → List Value → Type 0
 CanMeet select front =
     (rest : List Value) × IsTrue (meets_all select.conjuncts (front ++ rest))
 
--- the values kept of a combined row: its own, or the select list's row of it if it meets every ON
+-- the output of a combined row: its own values, or the select list's row of it if it meets every ON
 -- and WHERE
 abbrev pub IsKept : Select → CombinedOutput → List Value → List Value → Type 0
 IsKept select Front values row = values ≡ row
 IsKept select SelectList values row = IsSelected select values row
 
 -- the select list's rows of the combined rows that begin with values that these rows hold on the
--- day, and go on with rows of these references
+-- day, and continue with rows of the references
 abbrev pub InRestOn : (ℤ → VisibleRows) → Select → List QueryReference → List PeriodRow → ℤ
     → List Value → Type 0
 InRestOn Sees select references fronts day row =

@@ -10,12 +10,12 @@ use Rattle.period_core.specs.declared.value.Value.{Value}
 abbrev pub IsAscending : List (List Value) → Type 0
 IsAscending = AllPairs (λ a b. values_cmp a b ≡ Less)
 
--- the list has the members of the set and no others, in ascending order, each once
+-- the list has exactly the members of the set, in ascending order, each once
 pub record ListsSet (InSet : List Value → Type 0) (list : List (List Value)) : Type 0 where
   pub ascending : IsAscending list
   pub members : (values : List Value) → (Contains list values ↔ InSet values)
 
--- none of the others is less than the values
+-- no values of the list are less than the values
 abbrev pub NoneBelow : List Value → List (List Value) → Type 0
 NoneBelow values others =
     (other : List Value) → Contains others other → values_cmp other values ≡ Less → ⊥

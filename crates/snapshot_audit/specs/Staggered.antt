@@ -1,4 +1,4 @@
--- Rows in the order of their values, and those of the same values in the order of their starts and
+-- Rows in the order of their values, and rows of the same values in the order of their starts and
 -- of their ends.
 use Rattle.std.specs.Prelude.{◌≡◌, ◌⊎◌, ◌-◌, ◌≤ℤ◌, ◌<ℤ◌, ℤ, Bool, true, false, int_lt, List}
 use Rattle.std.specs.Prelude.{AllPairs, Some, length, slice_get}
@@ -8,7 +8,7 @@ use Rattle.period_core.specs.Order.{values_cmp}
 use Rattle.period_core.specs.declared.value.Value.{Value}
 use Rattle.period_core.specs.declared.row.PeriodRow.{PeriodRow}
 
--- the values of the first row come before those of the second, or they are the same, and the first
+-- the values of the first row come before the second's, or they are the same, and the first
 -- row starts no later and ends earlier
 abbrev pub IsStaggered : PeriodRow → PeriodRow → Type 0
 IsStaggered row other =
@@ -26,7 +26,7 @@ LastHolds rows row =
     (last : PeriodRow) × (slice_get rows (length rows - 1) ≡ Some last)
     × (last.values ≡ row.values) × (row.period.end ≤ℤ last.period.end)
 
--- whether the first values come before the others, or are the same and start before the day
+-- whether the first values come before the second, or are the same and start before the day
 abbrev pub comes_before : List Value → ℤ → List Value → ℤ → Bool
 comes_before values start others day =
     match_ordering (values_cmp values others) true (int_lt start day) false

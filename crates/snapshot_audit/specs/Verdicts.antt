@@ -35,7 +35,7 @@ abbrev pub SetOnDays : (ℤ → List Value → Type 0) → ℤ → List Value �
 SetOnDays InSet day values = IsDay day × InSet day values
 
 -- on every day the answer's snapshot is the set of that day, it is shortest, and each row has its
--- witness; the count is that of the change days
+-- witness; the count is the number of change days
 pub record IsConfirmed (InSet : ℤ → List Value → Type 0) (tables : List (List PeriodRow))
     (rows : List PeriodRow) (witnesses : List Witness) (count : ℕ) : Type 0 where
   pub agrees : AgreesAlways InSet rows

@@ -10,10 +10,10 @@ use catalog_core::{AnswerColumn, Cond, holds};
 use period_core::{Memory, Value, Values};
 use std::alloc::Global;
 
-/// The values that are kept of combined rows.
+/// The values that a select takes of combined rows.
 #[derive(Clone, Copy)]
 pub(crate) enum CombinedOutput {
-    /// All values, to which those of further references come.
+    /// All values, which the values of further references follow.
     Front,
     /// The select list's row of those that meet the conditions.
     SelectList,
@@ -85,7 +85,7 @@ pub(crate) fn side_by_side(
     Ok(Values::from_vec(both))
 }
 
-/// The values that are kept of a combined row, if any.
+/// The values that are taken of a combined row, if any.
 pub(crate) fn kept(
     alloc: Global,
     select: &Select,

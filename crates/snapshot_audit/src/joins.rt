@@ -24,7 +24,7 @@ pub(crate) enum EntrySide {
     Second,
 }
 
-// Adds what is kept of the values of both rows on the days of both, unless no combined row that
+// Adds the output of the values of both rows on the days of both, unless no combined row that
 // begins with them meets the conditions.
 fn add_pair(
     alloc: Global,
@@ -95,11 +95,11 @@ fn add_partners(
     Ok(())
 }
 
-// Up to this many rows are kept as they come.
+// Up to this many rows are left as they come.
 const FEW: usize = 65_536;
 
 // The rows, without those that lie within another if they are many and have no room for `more`
-// others. There is then room for as many again, so that this takes no more time than the pairs do,
+// more. There is then room for as many again, so that this takes no more time than the pairs do,
 // and memory follows what the rows hold and not the pairs.
 fn with_room(alloc: Global, rows: Vec<PeriodRow>, more: usize) -> Result<Vec<PeriodRow>, Memory>
     ensures { IfOk result (λ roomy. Equivalent rows.items roomy.items) }
@@ -113,7 +113,7 @@ fn with_room(alloc: Global, rows: Vec<PeriodRow>, more: usize) -> Result<Vec<Per
     Ok(shorter)
 }
 
-// Adds the pairs of each entry of this side with those of the other side that have its key and
+// Adds the pairs of each entry of this side with entries of the other side that have its key and
 // begin on one of its days.
 fn add_begun(
     alloc: Global,
@@ -142,7 +142,7 @@ fn add_begun(
     Ok(added)
 }
 
-/// The values that are kept of the pairs of rows on the days of both. One of a pair begins on a day
+/// The output of the pairs of rows on the days of both. One of a pair begins on a day
 /// of the other, so the pairs are found where one begins.
 pub(crate) fn joined(
     alloc: Global,

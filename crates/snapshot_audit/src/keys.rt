@@ -12,7 +12,7 @@ use period_core::{Day, Memory, Period, PeriodRow, Value, Values};
 use std::alloc::Global;
 use std::cmp::Ordering;
 
-/// A row with the values by which it is joined. They are in the order of these values, and those
+/// A row with the values by which it is joined. Rows are in the order of these values, and rows
 /// of the same values in the order of their periods.
 #[derive(Drop, PartialEq, Eq, PartialOrd, Ord)]
 pub(crate) struct KeyedEntry<'a> {
@@ -40,7 +40,7 @@ fn read(alloc: Global, columns: &[usize], values: &[Value]) -> Result<Option<Val
     Ok(Some(Values::from_vec(key)))
 }
 
-/// The rows that have values at the positions, in the order of these and of their periods.
+/// The rows that have values at the positions, in the order of the values and of their periods.
 pub(crate) fn by_key<'a>(
     alloc: Global,
     columns: &[usize],

@@ -50,7 +50,7 @@ fn is_combined(operator: SetOperator, first: bool, second: bool) -> bool
     }
 }
 
-/// Whether the query's set on the day has the values, if the first of these lists are those of
+/// Whether the query's set on the day has the values, if the first lists are the rows of
 /// its selects; and the remaining lists.
 pub(crate) fn in_query<'l>(
     query: &Query,

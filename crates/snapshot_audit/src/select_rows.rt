@@ -26,7 +26,7 @@ fn all_days() -> Period
 }
 
 // Rows that hold on each day what the select gives by the combined rows that begin with values of
-// these rows, and go on with rows of these references.
+// the first rows, and continue with rows of the references.
 fn rest_rows(
     alloc: Global,
     select: &Select,

@@ -35,7 +35,7 @@ fn add_selected(
 }
 
 // Adds the select list's row of each combined row that begins with these values, continues with the
-// rows of these references, and meets the conditions.
+// rows of the references, and meets the conditions.
 fn add_rest(
     alloc: Global,
     rows: &mut Vec<Values>,

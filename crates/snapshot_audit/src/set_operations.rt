@@ -24,7 +24,7 @@ fn is_below(first: &Values, second: &Values) -> bool
     }
 }
 
-// The others without the first ones, which are less than the values.
+// The list without its first values that are less than the given ones.
 fn not_below<'a>(others: &'a [Values], values: &Values) -> &'a [Values]
     requires { IsAscending others.now }
     ensures ascending { IsAscending result.now }
@@ -43,7 +43,7 @@ fn not_below<'a>(others: &'a [Values], values: &Values) -> &'a [Values]
     rest
 }
 
-// Whether the values are among the others, of which none is less.
+// Whether the values are in the list, none of which is less.
 fn is_first(values: &Values, others: &[Values]) -> bool
     requires ascending { IsAscending others.now }
     requires bound { NoneBelow values.now others.now }

@@ -34,7 +34,7 @@ fn width_of(rows: &[PeriodRow]) -> Option<usize>
     Some(width)
 }
 
-// Adds the columns of these two positions, if the first is one of the first side, whose rows have
+// Adds the columns of two positions, if the first is one of the first side, whose rows have
 // `width` values, and the second one of the second side, whose rows have `more`.
 fn add_columns(
     columns: &mut SharedColumns,

@@ -25,8 +25,8 @@ fn last_holds(rows: &[PeriodRow], row: &PeriodRow) -> bool
     }
 }
 
-/// Rows with the same snapshots, in the order of their values, and those of the same values in the
-/// order of their starts and of their ends: without those that lie within another.
+/// Rows with the same snapshots, in the order of their values, and rows of the same values in the
+/// order of their starts and of their ends: without rows that lie within another.
 pub(crate) fn staggered(alloc: Global, rows: Vec<PeriodRow>) -> Result<Items<PeriodRow>, Memory>
     ensures staggered { IfOk result AreStaggered }
     ensures same { IfOk result (Equivalent rows.items) }
@@ -60,7 +60,7 @@ fn ends_after(row: &PeriodRow, day: Day) -> bool
     day < row.period.end
 }
 
-/// Whether the rows hold the values on the day: the last of these values that has begun does so, or
+/// Whether the rows hold the values on the day: the last row with them that has begun does so, or
 /// none.
 pub(crate) fn holds_on(rows: &[PeriodRow], values: &Values, day: Day) -> bool
     requires { AreStaggered rows.now }

@@ -6,7 +6,7 @@ use period_core::Day;
 #[derive(Clone, Copy, Debug, PartialEq, Eq)]
 pub enum Verdict {
     /// On every day the answer's snapshot is the query's set, the answer is the shortest of its
-    /// snapshots, and its witnesses are those of its rows. It carries the number of change days.
+    /// snapshots, and its witnesses are its rows'. It carries the number of change days.
     Agrees(usize),
     /// The least day on which the answer's snapshot is not the query's set.
     Differs(Day),

@@ -16,7 +16,7 @@ use period_core::{PeriodRow, Witness};
 /// the least number, from 1, of a row without a witness; or whose witness is not its first day and
 /// the day before; or whose values the list holds on the day before; or that shares values and
 /// first day with an earlier row. If only witnesses are spare it is the number of rows plus 1.
-/// An answer in order is read twice; for any other list each row is compared with all others.
+/// An answer in order is read twice; for any other list each row is compared with every row.
 pub fn check_witnesses(rows: &[PeriodRow], witnesses: &[Witness]) -> Option<usize>
     ensures faultless { IfNone result (IsFaultless rows.now witnesses.now) }
     ensures certified { IfNone result (IsCertified rows.now) }

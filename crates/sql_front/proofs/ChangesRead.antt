@@ -67,7 +67,7 @@ reads_assignment : Reads IsAssignment Any assignment_read
 unfolding assignment_read
 reads_assignment = reads_built assignment_of (reads_both reads_name (reads_preceded (symbol (codes "=")) reads_literal))
 
--- at the end of a statement
+-- WHERE is read at the end of a statement
 reads_last_where : (n : ℕ) → Reads (IsWhere IsCompare (suc n)) (Next []) (where_read compare_read n)
 reads_last_where n = reads_less [] where_ends refl (reads_compare_where n)
 

@@ -99,7 +99,7 @@ reads_type =
     (reads_next after_type reads_varying)
     reads_timestamp)))
 
--- START | END
+-- the reader of START or END
 reads_row_end : Reads (Choice (Denotes Start (keyword (codes "START"))) (Denotes End (keyword (codes "END")))) Any row_end_read
 unfolding row_end_read
 reads_row_end =

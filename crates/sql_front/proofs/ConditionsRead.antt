@@ -28,7 +28,7 @@ pub reads_column : Reads IsColumn (Not dot Any) column_read
 unfolding column_read
 reads_column = reads_built column_reference_of (reads_both reads_name (reads_optional (starts_preceded dot IsName) (reads_preceded dot reads_name)))
 
--- before tokens of these sorts
+-- a column is read before tokens of some sorts, none of which is a period
 pub reads_column_next : (ss : List Sort) → all_differ ss (sign (codes ".") ∷ []) ≡ true → Reads IsColumn (Next ss) column_read
 reads_column_next ss e = reads_weaken (Next ss) (λ rest n. (tt, next_not ss (sign (codes ".") ∷ []) e rest n)) reads_column
 
@@ -122,7 +122,7 @@ reads_compare =
     (reads_sequence reads_operand (reads_both reads_comparison reads_operand)
     (λ y b rest h follow. (tt, begins_apart (apart_lists comparison_firsts (sign (codes ".") ∷ []) refl) (y ++ rest) ((starts_sequence IsOperand starts_comparison).at y b rest h))))
 
--- before tokens of these sorts
+-- a comparison is read before tokens of some sorts, none of which is a period
 pub reads_compare_next : (ss : List Sort) → all_differ ss (sign (codes ".") ∷ []) ≡ true → Reads IsCompare (Next ss) compare_read
 reads_compare_next ss e = reads_weaken (Next ss) (λ rest n. (tt, next_not ss (sign (codes ".") ∷ []) e rest n)) reads_compare
 
@@ -171,7 +171,7 @@ module _ {T : Type 0} {Test : Language T} {p : Reader T} (firsts : List Sort) (n
     reads_condition : Reads (IsCondition Test Inner) (Next condition_ends) (condition_with (conjunction_with (factor_with (test_with p inner))))
     reads_condition = reads_built builders.any_of (reads_separated_next (word (codes "OR")) condition_ends conjunction_ends refl refl refl reads_conjunction)
 
-  -- at any depth
+  -- conditions are read at any depth
   reads_inner : (n : ℕ) → Reads (ConditionBelow Test n) (Next condition_ends) (inner_read p n)
   unfolding ConditionBelow inner_read
   reads_inner zero = record { found = λ ts x e. absurd (none_some x e); again = λ front a rest h follow. absurd h }

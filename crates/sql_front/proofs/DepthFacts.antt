@@ -141,7 +141,7 @@ pub no_more : (exceeded : Bool) (k : ℕ) → exceeded ≡ (exceeded || is_none 
 no_more true k = refl
 no_more false k = ap is_none (sym (room_end k))
 
--- no tokens are left
+-- a list of less than one token is empty
 pub none_left : (r : Room) (rest : List Token) → length rest < 1 → is_too_small r [] ≡ is_too_small r (lexemes rest)
 none_left r [] short = refl
 none_left r (t ∷ rest) short = absurd (omega arith)

@@ -39,7 +39,7 @@ reads_system_element =
 abbrev IsSomePeriod : Language Element
 IsSomePeriod = Choice (Built system_element IsSystemElement) (Built period_element IsPeriodElement)
 
--- both begin with PERIOD FOR, and SYSTEM_TIME is no name
+-- both periods begin with PERIOD FOR, and SYSTEM_TIME is no name
 reads_some_period : Reads IsSomePeriod Any some_period_read
 unfolding some_period_read
 reads_some_period =
@@ -131,7 +131,7 @@ starts_reference_element = starts_built reference_element (starts_preceded (keyw
 
 -- ---- elements
 
--- the second and the third of four, taken together
+-- four choices, the second and the third taken together
 module _ {A : Type 0} (K L M N : List Lexeme → A → Type 0) where
   abbrev ByFour : List Lexeme → A → Type 0
   ByFour = Choice K (Choice L (Choice M N))

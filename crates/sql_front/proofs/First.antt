@@ -10,7 +10,7 @@ use Rattle.sql_statements.specs.Lexemes.{Lexeme}
 use Rattle.sql_front.specs.Language.{keyword, symbol, number, text, or_test, is_word, is_number, is_text, is_symbol, OneToken, Fixed, Sequence, Built, Choice, Preceded, PrecededOrNot, Denotes}
 use Rattle.sql_front.specs.reading.Reading.{begins}
 
--- no token meets both
+-- no token passes both tests
 pub record Apart (a b : Lexeme → Bool) : Type 0 where
   pub apart : (t : Lexeme) → a t ≡ true → b t ≡ false
 
@@ -61,7 +61,7 @@ apart_kinds {a} {b} f g differ = record {
   ];
 }
 
--- two texts that differ
+-- a text is not equal to two that differ
 differing : (text v w : List ℕ) → bytes_eq v w ≡ false → bytes_eq text v ≡ true → bytes_eq text w ≡ false
 differing text v w differ e =
     let same : text ≡ v = (bytes_eq-Decides text v).0 e in

@@ -1,4 +1,4 @@
--- Each production, by what its literals stand for.
+-- Each production, by the values of its literals.
 use Rattle.std.proofs.Common.{◌≡◌, ℕ, zero, suc, true, false, List, refl, codes, ◌||◌, Bool}
 use Rattle.std.specs.Str.{bytes_eq}
 use Rattle.sql_statements.specs.Lexemes.{Lexeme}
@@ -21,7 +21,7 @@ use Rattle.sql_front.specs.Grammar.{ConditionBelow, IsCondition, IsConjunction, 
 use Rattle.sql_front.proofs.LiteralReadings.{comma_no_minus, readings_clock_moment, readings_date, readings_literal, readings_moment, readings_number, readings_tuple}
 use Rattle.sql_front.proofs.Readings.{NoFault, Readings, keyword_no_minus, name_no_minus, symbol_no_minus, readings_built, readings_choice, readings_enclosed, readings_fixed, readings_one, readings_optional, readings_preceded, readings_preceded_or_not, readings_repetition, readings_separated, readings_sequence, readings_of_token}
 
--- a keyword, then a language
+-- a keyword, and a language after it
 module _ {A : Type 0} (w : List ℕ) {E S Y : Language A} where
   after : Readings E S Y → Readings (Preceded (keyword w) E) (Preceded (keyword w) S) (Preceded (keyword w) Y)
   after r = readings_preceded (keyword_no_minus w) r
@@ -29,11 +29,11 @@ module _ {A : Type 0} (w : List ℕ) {E S Y : Language A} where
   after_or_not : Readings E S Y → Readings (PrecededOrNot (keyword w) E) (PrecededOrNot (keyword w) S) (PrecededOrNot (keyword w) Y)
   after_or_not r = readings_preceded_or_not (keyword_no_minus w) r
 
--- a comma, then a language
+-- a comma, and a language after it
 after_comma : {A : Type 0} {E S Y : Language A} → Readings E S Y → Readings (Preceded comma E) (Preceded comma S) (Preceded comma Y)
 after_comma r = readings_preceded comma_no_minus r
 
--- a list with commas
+-- a list of a language's parts with commas
 listed : {A : Type 0} {E S Y : Language A} → Readings E S Y → Readings (Separated comma E) (Separated comma S) (Separated comma Y)
 listed r = readings_separated comma_no_minus r
 
@@ -41,11 +41,11 @@ listed r = readings_separated comma_no_minus r
 a_word : (w : List ℕ) → Readings (Fixed (keyword w)) (Fixed (keyword w)) (Fixed (keyword w))
 a_word w = readings_fixed (keyword_no_minus w)
 
--- a keyword that stands for a value
+-- a keyword that denotes a value
 word_for : {A : Type 0} (a : A) (w : List ℕ) → Readings (Denotes a (keyword w)) (Denotes a (keyword w)) (Denotes a (keyword w))
 word_for a w = readings_of_token a (keyword_no_minus w)
 
--- a sign that stands for a value
+-- a sign that denotes a value
 sign_for : {A : Type 0} (a : A) (s : List ℕ) → bytes_eq s (codes "-") ≡ false → Readings (Denotes a (symbol s)) (Denotes a (symbol s)) (Denotes a (symbol s))
 sign_for a s e = readings_of_token a (symbol_no_minus s e)
 
@@ -159,7 +159,7 @@ readings_compare =
 -- ---- conditions
 
 module _ {T : Type 0} {E S Y : Language T} (tests : Readings E S Y) where
-  -- over what stands in parentheses
+  -- over a condition in parentheses
   readings_over : {E2 S2 Y2 : Language (Condition T)} → Readings E2 S2 Y2 → Readings (IsCondition E E2) (IsCondition S S2) (IsCondition Y Y2)
   readings_over {E2} {S2} {Y2} r =
       let one : Readings (IsTest E E2) (IsTest S S2) (IsTest Y Y2) = readings_choice (readings_enclosed r) (readings_built test tests) in
@@ -324,11 +324,11 @@ readings_statement n =
     (readings_choice (readings_built sequenced (readings_sequenced n))
     (readings_built stored (readings_stored n)))))))
 
--- without a fault, the statement that is read is spelled exactly
+-- if no literal has a fault, the statement that is read is spelled exactly
 pub spelled_exactly : (x : List Lexeme) (s : Statement) → NoFault x → Spells placeholders x s → Spells exact x s
 spelled_exactly x s f h = (h.0, ((readings_statement h.0).sharp x s f h.1).0)
 
--- and the one that is spelled exactly is read
+-- a statement that is spelled exactly is read
 pub exactly_read : (x : List Lexeme) (s : Statement) → Spells exact x s → Spells placeholders x s
 exactly_read x s h = (h.0, (readings_statement h.0).known x s h.1)
 

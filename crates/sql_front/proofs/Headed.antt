@@ -1,4 +1,4 @@
--- A production of one part and a repetition of others, as it is read.
+-- A production of one part and a repetition of a second one, as it is read.
 use Rattle.std.proofs.Common.{◌≡◌, Bool, List, Some, refl}
 use Rattle.sql_front.specs.declared.read_error.ReadError.{ReadError}
 use Rattle.sql_front.specs.declared.read_error.ReadError.TheVariants as error

@@ -155,11 +155,11 @@ module _ {A : Type 0} (d : List Lexeme → Bool) (L : List Lexeme → A → Type
 pub reads_preceded : {A : Type 0} (test : Lexeme → Bool) {L : List Lexeme → A → Type 0} {F : List Lexeme → Type 0} {p : Reader A} → Reads L F p → Reads (Preceded test L) F (preceded_read test p)
 reads_preceded {A} test r = reads_built (λ (v : Unit {0} × A). v.1) (reads_both (reads_fixed test) r)
 
--- not at such a token
+-- the language's next tokens, but not one that passes the test
 abbrev pub Not : (Lexeme → Bool) → (List Lexeme → Type 0) → List Lexeme → Type 0
 Not test F rest = F rest × (begins test rest ≡ false)
 
--- one or more, with a separator between each two
+-- one or more parts are read, with a separator between each two
 pub reads_separated : {A : Type 0} (test : Lexeme → Bool) {L : List Lexeme → A → Type 0} {F : List Lexeme → Type 0} {p : Reader A} → Reads L F p → ((z : List Lexeme) → begins test z ≡ true → F z) → Reads (Separated test L) (Not test F) (separated_read test p)
 reads_separated {A} test {L} {F} {p} r next =
     reads_built (λ (v : A × List A). v.0 ∷ v.1)
@@ -192,7 +192,7 @@ reads_preceded_or_not {A} {test} {other} {L} {F} {p} s apart r =
       again = λ front a rest h follow. sym (either_way test p (front ++ rest)) ∙ either.again front a rest h follow;
     }
 
--- a token that stands for a value
+-- a token that denotes a value
 pub reads_denotes : {A : Type 0} (a : A) (test : Lexeme → Bool) → Reads (Denotes a test) Any (denotes_read a test)
 reads_denotes a test = reads_built (λ (nothing : Unit {0}). a) (reads_fixed test)
 

@@ -12,7 +12,7 @@ use Rattle.sql_front.specs.reading.Leaves.{name_read}
 use Rattle.sql_front.specs.reading.ElementReaders.{leading_names_read, more_names_read, one_more_name, second_is}
 use Rattle.sql_front.proofs.Loop.{Going, begins_some, going_fails, going_on, with_front}
 
--- one of the names after a comma
+-- the reader of one of the names after a comma
 abbrev pub next_name : Reader (List ℕ)
 next_name = preceded_read comma name_read
 
@@ -39,7 +39,7 @@ unfolding leading_names_read more_names_read
 leading_fails_first error.Memory ts h = tt
 leading_fails_first error.Syntax ts h = rw h refl
 
--- if one more name comes, a comma does
+-- if one more name follows, a comma is next
 pub comma_first : (ts : List Lexeme) → one_more_name ts ≡ true → begins comma ts ≡ true
 unfolding one_more_name
 comma_first ts e = (and_parts (begins comma ts) (second_is name ts) e).0

@@ -17,7 +17,7 @@ pub day_shown : (t : List ℕ) (n : ℤ) → day_of_token t ≡ Some n → IsDay
 unfolding day_of_token
 day_shown t n e = day_read_is_text (between_quotes t) n e
 
--- and the one that its text names is read off it
+-- the day that a token's text names is read off it
 pub day_found : (t : List ℕ) (n : ℤ) → IsDayText n (between_quotes t) → day_of_token t ≡ Some n
 unfolding day_of_token
 day_found t n h = day_text_is_read (between_quotes t) n h

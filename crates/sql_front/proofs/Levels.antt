@@ -131,7 +131,7 @@ level_enclosed {A} {k} {L} {M} r = record {
       (same, (h.0, h.1, (front.0, front.1, front.2, front.3, (front.4.0, front.4.1, (inner.0, inner.1, inner.2, p.1, inner.4)))));
 }
 
--- with no room left nothing opens
+-- if there is room for no parenthesis, none opens
 pub level_closed : {A : Type 0} (L M : List Lexeme → A → Type 0) → Level zero (Enclosed L) M
 level_closed L M = record {
   keeps = λ x a j h e.

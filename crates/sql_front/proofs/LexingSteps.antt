@@ -40,7 +40,7 @@ pub none_left : (start : ℕ) (script : List ℕ) (at : ℕ) (rest : List ℕ) �
     → ((more : List Lexeme) → TokensFrom at rest more → TokensFrom start script more) → TokensFrom start script []
 none_left start script at rest h before = before [] (rw (nil_from_length rest h) lexis.TokensFrom.ended)
 
--- ---- one token after others
+-- ---- one more token
 
 pub one_more : (start : ℕ) (script : List ℕ) (at end : ℕ) (rest after : List ℕ) (so_far : List Lexeme) (t : Lexeme)
     → ((more : List Lexeme) → TokensFrom at rest more → TokensFrom start script (so_far ++ more))

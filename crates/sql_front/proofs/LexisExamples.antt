@@ -28,7 +28,7 @@ one_piece = (
   refl,
 )
 
--- of `a;a` each piece has its own span
+-- each piece of `a;a` has its own span
 two_spans : HasSpans 0 (word ∷ semicolon ∷ word ∷ []) (record { start = 0; end = 1 } ∷ record { start = 2; end = 3 } ∷ [])
 unfolding semicolon word
 two_spans = (

@@ -37,7 +37,7 @@ unread_is_none ls result given e shallow s spelled =
 
 -- ---- refusals
 
--- a fault that a test would have found, and did not, is none
+-- a fault that a test would find does not exist if the test finds none
 pub not_found : {D : Type 0} (told : Bool) → told ≡ false → (D → IsTrue told) → D → ⊥
 not_found true e tells d = absurd cc
 not_found false e tells d = let holds : IsTrue false = tells d in cc

@@ -1,4 +1,4 @@
--- The refusals of a piece that is spelled and not too deep are those of its literals.
+-- The refusals of a piece that is spelled and not too deep are its literals' refusals.
 use Rattle.std.proofs.Common.{◌≤◌, List}
 use Rattle.period_core.specs.Codes.{code_of}
 use Rattle.period_core.specs.Leasts.{IsLeast, NoneApplies}
@@ -30,7 +30,7 @@ piece_least ts refusal deep spelled l = record {
   least = piece_least_from ts refusal deep spelled l;
 }
 
--- and if its literals call for none, none applies
+-- if a piece's literals call for no refusal, no condition of the piece applies
 pub piece_none : (ts : List Lexeme) → (IsTooDeep ts → ⊥) → (SpellsNone ts → ⊥) → NoneApplies (LiteralApplies ts) → NoneApplies (PieceApplies ts)
 piece_none ts deep spelled none Syntax h = spelled h.1
 piece_none ts deep spelled none TooDeep h = deep h

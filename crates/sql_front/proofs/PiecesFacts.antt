@@ -11,7 +11,7 @@ use Rattle.sql_statements.specs.Lexemes.{Lexeme}
 use Rattle.sql_front.specs.Pieces as pieces
 use Rattle.sql_front.specs.Pieces.{is_semicolon, is_nonempty, is_filled, spans_from, HasNoSemicolon, HasPieces, HasSpans, spanned, IsWithin}
 
--- the tokens are those of some things
+-- the tokens are images of some things
 module _ {A : Type 0} (f : A → Lexeme) where
   -- the pieces before one place are cut, and up to another there is no semicolon
   pub record Cut (tokens : List A) (start i : ℕ) (spans : List Span) : Type 0 where
@@ -44,7 +44,7 @@ module _ {A : Type 0} (f : A → Lexeme) where
   or_false : (a b : Bool) → a ≡ false → b ≡ false → (a || b) ≡ false
   or_false a b e f = rw (e, f) refl
 
-  -- another token, which is no semicolon
+  -- a token that is no semicolon lengthens the piece
   pub cut_token : (tokens : List A) (start i : ℕ) (spans : List Span) (d : A) → Cut tokens start i spans → i < length tokens
       → is_semicolon (f (get_or tokens i d)) ≡ false → Cut tokens start (i + 1) spans
   cut_token tokens start i spans d so_far h plain =
@@ -86,12 +86,12 @@ module _ {A : Type 0} (f : A → Lexeme) where
       let is : nat_lt start i ≡ false = grind (arith, nat_tests) in
       rw (size, rest, is) refl
 
-  -- a span after the others
+  -- a span at the end
   span_after : (ts : List Lexeme) (spans after : List Span) (span : Span) (more : List Span) → after ≡ spans ++ span ∷ [] → HasSpans 0 ts (spans ++ span ∷ more) → HasSpans 0 ts (after ++ more)
   span_after ts spans after span more pushed has =
       subst (HasSpans 0 ts) (sym (ap (λ (x : List Span). x ++ more) pushed ∙ append_assoc spans (span ∷ []) more)) has
 
-  -- one more span
+  -- the pieces of the spans so far, and one more
   pushed_pieces : (ts : List Lexeme) (spans after : List Span) (span : Span) (part : List Lexeme) (more : List (List Lexeme)) → after ≡ spans ++ span ∷ []
       → spanned ts span ≡ part → map (spanned ts) after ++ more ≡ map (spanned ts) spans ++ part ∷ more
   pushed_pieces ts spans after span part more pushed is =
@@ -101,7 +101,7 @@ module _ {A : Type 0} (f : A → Lexeme) where
   pushed_within : (n : ℕ) (spans after : List Span) (span : Span) → after ≡ spans ++ span ∷ [] → All (IsWithin n) spans → IsWithin n span → All (IsWithin n) after
   pushed_within n spans after span pushed h one = subst (All (IsWithin n)) (sym pushed) (All-push (IsWithin n) spans span h one)
 
-  -- a part before others
+  -- a part before more parts
   part_first : (tokens : List A) (start i : ℕ) (spans : List Span) (d : A) → (c : Cut tokens start i spans) → i < length tokens
       → is_semicolon (f (get_or tokens i d)) ≡ true → (parts : List (List Lexeme)) → pieces.Joined parts (drop (i + 1) (map f tokens))
       → pieces.Joined (c.part ∷ parts) (drop start (map f tokens))
@@ -112,7 +112,7 @@ module _ {A : Type 0} (f : A → Lexeme) where
       c.joined ∙ ap (λ (rest : List Lexeme). c.part ++ rest) (at_place tokens i d h) in
       subst (pieces.Joined (c.part ∷ parts)) (sym whole) joined
 
-  -- a semicolon after a piece
+  -- a semicolon after a piece adds the piece
   pub cut_piece : (tokens : List A) (start i : ℕ) (spans after : List Span) (d : A) → Cut tokens start i spans → i < length tokens
       → is_semicolon (f (get_or tokens i d)) ≡ true → start < i → after ≡ spans ++ record { start = start; end = i } ∷ [] → Cut tokens (i + 1) (i + 1) after
   cut_piece tokens start i spans after d c h semicolon some pushed =
@@ -133,7 +133,7 @@ module _ {A : Type 0} (f : A → Lexeme) where
         within = pushed_within (length tokens) spans after span pushed c.within (some, omega arith);
       }
 
-  -- a semicolon after no token
+  -- a semicolon after no token adds no piece
   pub cut_empty : (tokens : List A) (start i : ℕ) (spans : List Span) (d : A) → Cut tokens start i spans → i < length tokens
       → is_semicolon (f (get_or tokens i d)) ≡ true → i ≤ start → Cut tokens (i + 1) (i + 1) spans
   cut_empty tokens start i spans d c h semicolon none = record {
@@ -158,7 +158,7 @@ module _ {A : Type 0} (f : A → Lexeme) where
   to_end : (tokens : List A) (start i : ℕ) (spans : List Span) → Cut tokens start i spans → length tokens ≤ i → i ≤ length tokens → Cut tokens start (length tokens) spans
   to_end tokens start i spans c le ge = let e : i ≡ length tokens = omega arith in subst (λ (k : ℕ). Cut tokens start k spans) e c
 
-  -- the cut of all tokens
+  -- the spans are the cut of all tokens
   pub record AreCut (tokens : List A) (spans : List Span) : Type 0 where
     pub whole : HasPieces (map f tokens) (map (spanned (map f tokens)) spans)
     pub places : HasSpans 0 (map f tokens) spans

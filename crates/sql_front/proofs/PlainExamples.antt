@@ -31,7 +31,7 @@ module _ (place : Ptr) (global : Global) where
   -- ---- conditions
 
   module _ {T : Type 0} (b c : T) where
-    -- NOT c
+    -- the condition NOT c
     abbrev inverse : trees.Tree T
     inverse = trees.Not (boxed (trees.Test c))
 
@@ -41,7 +41,7 @@ module _ (place : Ptr) (global : Global) where
         ∙ fold-roll-Tree T (Condition T) condition_layer (layer.Not (boxed (trees.Test c)))
         ∙ ap negated (test_view c)
 
-    -- b OR NOT c
+    -- the condition b OR NOT c
     abbrev either : trees.Tree T
     either = trees.Or (boxed (trees.Test b)) (one_other inverse)
 

@@ -24,21 +24,21 @@ use Rattle.sql_front.proofs.StatementExamples.{digits, sign, word}
 use Rattle.sql_front.proofs.QueryExamples.{column}
 use Rattle.sql_front.proofs.WindowExamples.{stored_from}
 
--- SELECT * FROM T WHERE
+-- the tokens of SELECT * FROM T WHERE, and more
 abbrev asking : List Lexeme → List Lexeme
 asking condition = stored_from (word (codes "WHERE") ∷ condition)
 
 abbrev asked : Condition StoredTest → Statement
 asked condition = stored (record { table = codes "T"; window = None; condition = Some condition })
 
--- P, Q and T.P
+-- the operands P, Q and T.P
 abbrev p : PeriodOperand
 p = Named (column (codes "P"))
 
 abbrev q : PeriodOperand
 q = Named (column (codes "Q"))
 
--- ---- predicates beside comparisons
+-- ---- predicates that are no comparisons
 
 -- SELECT * FROM T WHERE NOT P OVERLAPS Q AND (A = 1 OR P EQUALS Q)
 abbrev mixed : List Lexeme

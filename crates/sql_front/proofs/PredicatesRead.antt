@@ -78,7 +78,7 @@ reads_said =
     (reads_built related (reads_both reads_relation (reads_period_operand test_ends refl)))
     (λ x s rest h n. day_decides x s rest h) (λ x s rest h n. related_decides x s rest h))
 
--- such tokens are among more
+-- tokens of some sorts are of more sorts too
 begins_included : (v w : List Sort) → included v w ≡ true → (z : List Lexeme) → begins (any_of v) z ≡ true → begins (any_of w) z ≡ true
 begins_included v w e [] h = absurd cc
 begins_included v w e (t ∷ z) h = elim (next_begins v w e (t ∷ z) h).at [ inl n ↦ absurd cc | inr b ↦ b ]

@@ -54,7 +54,7 @@ new_name_firsts = word (codes "AS") ∷ a_name ∷ []
 pub starts_new_name : Starts (any_of new_name_firsts) IsNewName
 starts_new_name = starts_preceded_or_not (keyword (codes "AS")) starts_name
 
--- before what is no new name
+-- a new name is read before tokens that begin none
 pub reads_new_name : (ends : List Sort) → all_differ ends new_name_firsts ≡ true → Reads (Optional IsNewName) (Next ends) new_name_read
 unfolding new_name_read
 reads_new_name ends e =
@@ -187,7 +187,7 @@ module _ (n : ℕ) {L : List Lexeme → Query → Type 0} {inner : Reader Query}
   reads_query_of : Reads (IsQuery (suc n) L) (Next query_ends) (query_of_primaries primary)
   reads_query_of = reads_built combined_of (reads_both_next reads_term reads_steps (leads_repetition step_firsts term_ends query_ends refl refl starts_set_operator))
 
--- at any depth
+-- queries are read at any depth
 pub reads_inner_query : (n : ℕ) → Reads (QueryBelow placeholders n) (Next query_ends) (inner_query_read n)
 unfolding QueryBelow inner_query_read
 reads_inner_query zero = record { found = λ ts x e. absurd (none_some x e); again = λ front a rest h follow. absurd h }

@@ -30,11 +30,11 @@ column name = record { qualifier = None; name = name }
 abbrev pub column_of : List ℕ → List ℕ → ColumnReference
 column_of table name = record { qualifier = Some table; name = name }
 
--- a table without a window
+-- a table reference without a window
 abbrev pub table : List ℕ → Option (List ℕ) → TableReference
 table name new_name = record { table = name; window = None; new_name = new_name }
 
--- SELECT DISTINCT of these items
+-- SELECT DISTINCT of a select list
 abbrev selecting : List SelectItem → List JoinChain → Option (Condition Compare) → Statement
 selecting items chains condition = sequenced (combined (simple (record { items = items; chains = chains; condition = condition })) last)
 
@@ -65,7 +65,7 @@ listing = select_from (
     ∷ word (codes "JOIN") ∷ word (codes "V") ∷ word (codes "ON") ∷ word (codes "B") ∷ sign (codes "=") ∷ word (codes "C")
     ∷ sign (codes ",") ∷ word (codes "W") ∷ word (codes "Z") ∷ [])
 
--- INNER says nothing, the joins stand in their order, and a comma begins another chain
+-- INNER adds nothing, the joins are in their order, and a comma begins another chain
 abbrev listed : Statement
 listed = selected_from (
     record {

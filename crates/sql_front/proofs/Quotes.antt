@@ -8,7 +8,7 @@ use Rattle.std.proofs.lemmas.Str.Pattern.{IsSplitOnceResult, split_parts}
 use Rattle.sql_front.specs.LiteralValues.{is_quote, rest_after_quote, unquoted, after_quote}
 use Rattle.sql_front.specs.Quoting.{continued}
 
--- no byte is a quote
+-- no byte of a text is a quote
 abbrev Plain : List ℕ → Type 0
 Plain x = (i : ℕ) → i < length x → get_or x i 0 ≢ 39
 

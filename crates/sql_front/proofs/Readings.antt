@@ -1,4 +1,4 @@
--- A production by what its literals stand for: the value that each names, the value that is read, any value.
+-- A production by the values of its literals: the value that each names, the value that is read, any value.
 use Rattle.std.proofs.Common.{◌≡◌, ℕ, Bool, false, List, [], ◌∷◌, ◌++◌, Option, Some, None, refl, sym, ap, subst, ◌∙◌, append_assoc, inl, inr, codes}
 use Rattle.std.specs.Str.{bytes_eq}
 use Rattle.std.proofs.lemmas.List.{append-nil}
@@ -9,7 +9,7 @@ use Rattle.sql_front.specs.LiteralFaults.{HasBadDate, HasBadMoment, HasNumberOut
 use Rattle.sql_front.proofs.First.{Apart, apart_kinds, keyword_kind, number_kind, symbol_kind, symbols_apart, text_kind}
 use Rattle.sql_front.proofs.NameSorts.{name_kind}
 
--- nothing is wrong with the literals of these tokens
+-- nothing is wrong with the tokens' literals
 pub record NoFault (x : List Lexeme) : Type 0 where
   pub dates : HasBadDate x → ⊥
   pub moments : HasBadMoment x → ⊥
@@ -34,7 +34,7 @@ no_fault_front x y f = record {
   numbers = λ h. f.numbers (front_number x y h);
 }
 
--- the last token of two lists is that of the second, if it has one
+-- the last token of two lists is the second's, if it has one
 minus_of_second : (x : List Lexeme) (t : Lexeme) (y : List Lexeme) → ends_in_minus (x ++ t ∷ y) ≡ ends_in_minus (t ∷ y)
 minus_of_second [] t y = refl
 minus_of_second (s ∷ []) t y = refl
@@ -68,7 +68,7 @@ no_fault_back x y e f = record {
 -- ---- the three ways of reading
 
 pub record Readings {A : Type 0} (Exact Read Loose : Language A) : Type 0 where
-  -- without a fault, what is read is exact; and the text ends in no minus
+  -- if no literal has a fault, what is read is exact; and the text ends in no minus
   pub sharp : (x : List Lexeme) (a : A) → NoFault x → Read x a → Exact x a × (ends_in_minus x ≡ false)
   -- each exact reading is a reading
   pub known : (x : List Lexeme) (a : A) → Exact x a → Read x a

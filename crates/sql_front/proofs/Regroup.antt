@@ -62,7 +62,7 @@ module _ {A : Type 0} (sep : Lexeme → Bool) (L : List Lexeme → A → Type 0)
       let whole : ts ≡ (h.0 ++ k.0) ++ k.1 = h.2 ∙ ap (λ (w : List Lexeme). h.0 ++ w) k.2 ∙ sym (append_assoc h.0 k.0 k.1) in
       (h.0 ++ k.0, k.1, whole, ((pair.0, s.0), s.1, (h.0, k.0, refl, h.3, k.3)), k.4)
 
-  -- all of them, if the last can be split off
+  -- a list whose last part can be split off is spelled by all parts and the last
   pub taken_apart : (ts : List Lexeme) (all : List A) (parts : List A × A) → split_last all ≡ Some parts → Separated sep L ts all → AllAndLast ts parts
   taken_apart ts all parts e h = apart_at ts h.0 parts (ap split_last (sym h.1) ∙ e) h.2
 

@@ -209,7 +209,7 @@ leads_sequence {from = from} r s = record {
       subst (λ (z : List Lexeme). Next from z) (sym regrouped) (r.lead h.0 v.0 (h.1 ++ rest) h.3 (s.lead h.1 v.1 rest h.4 n));
 }
 
--- ---- the laws, for what comes next
+-- ---- the laws, by the next tokens
 
 pub reads_next : {A : Type 0} {L : List Lexeme → A → Type 0} {p : Reader A} (ss : List Sort) → Reads L Any p → Reads L (Next ss) p
 reads_next ss r = reads_weaken (Next ss) (λ rest n. tt) r
@@ -217,7 +217,7 @@ reads_next ss r = reads_weaken (Next ss) (λ rest n. tt) r
 pub reads_less : {A : Type 0} {L : List Lexeme → A → Type 0} {p : Reader A} (v w : List Sort) → included v w ≡ true → Reads L (Next w) p → Reads L (Next v) p
 reads_less v w e r = reads_weaken (Next v) (λ rest n. next_in v w e rest n) r
 
--- the one, then the other
+-- two readers, one after the other, by the next token's sort
 pub reads_both_next : {A B : Type 0} {L : List Lexeme → A → Type 0} {p : Reader A} {M : List Lexeme → B → Type 0} {q : Reader B} {from to : List Sort} → Reads L (Next from) p → Reads M (Next to) q → Leads from to M → Reads (Sequence L M) (Next to) (sequence_read p q)
 reads_both_next r s l = reads_sequence r s (λ y b rest h n. l.lead y b rest h n)
 

@@ -43,6 +43,6 @@ none_if_unread ts e s spelled =
     let t = some_read ts s spelled in
     read_none ts e t.0 t.1
 
--- no tokens spell two
+-- no list of tokens spells two statements
 pub spells_one : SpellsOne
 spells_one ts a b h k = read_one ts a b (exactly_read ts a h) (exactly_read ts b k)

@@ -67,7 +67,7 @@ intersect_binds_tighter = spelled_if_read 0 tighter (sequenced tied) refl refl r
 
 -- ---- conditions
 
--- column = 1
+-- the tokens of a comparison: column = 1
 abbrev equals_one : List ℕ → List Lexeme
 equals_one column = word column ∷ sign (codes "=") ∷ digits (codes "1") ∷ []
 

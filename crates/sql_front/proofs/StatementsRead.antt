@@ -110,7 +110,7 @@ counted_within test (t ∷ ts) =
       | inr e ↦ rw e (omega (arith, counted_within test ts))
     ]
 
--- so many tokens are never deeper
+-- a list of tokens is never deeper than its length
 within_length : (ts : List Lexeme) → IsDeeper (length ts) ts → ⊥
 within_length ts d = absurd (omega (arith, d.3, counted_within opens d.0, ap length d.2, length-append d.0 d.1))
 

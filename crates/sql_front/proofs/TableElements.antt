@@ -8,12 +8,12 @@ use Rattle.sql_front.specs.Builders.{Element, column_element, period_element, sy
 use Rattle.sql_statements.specs.Elements.{HasElement}
 use Rattle.sql_front.specs.PlainElements.{plain_element, with_element}
 
--- one more of the kind
+-- the elements of a kind, with one more
 taken : {X Y : Type 0} (h : X → Option Y) (xs : List X) (x : X) (y : Y) → h x ≡ Some y
     → filter_map h (xs ++ x ∷ []) ≡ filter_map h xs ++ y ∷ []
 taken h xs x y e = filter_map-append h xs (x ∷ []) ∙ rw e refl
 
--- one more of another kind
+-- the elements of a kind, after one of another kind
 left_out : {X Y : Type 0} (h : X → Option Y) (xs : List X) (x : X) → h x ≡ None
     → filter_map h (xs ++ x ∷ []) ≡ filter_map h xs
 left_out h xs x e = filter_map-append h xs (x ∷ []) ∙ rw e (append-nil (filter_map h xs))

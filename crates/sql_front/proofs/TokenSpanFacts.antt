@@ -52,7 +52,7 @@ at_places script (t ∷ ts) all =
 
 -- ---- the places that a script's text gives
 
--- the places are those of its tokens
+-- the places are its tokens' places
 abbrev pub ArePlaces : ℕ → List ℕ → List TokenSpan → Type 0
 ArePlaces start text places = (ts : List Lexeme) × (places ≡ map span_of ts) × TokensFrom start text ts
 

@@ -37,6 +37,6 @@ module _ {A : Type 0} {L : List Lexeme → A → Type 0} {F : List Lexeme → Ty
   is_none {X} view stop ts (Err error.Memory) given e a h = absurd cc
   is_none {X} view stop ts (Err error.Syntax) given e a h = none_some a (sym given ∙ whole_again stop ts a h)
 
-  -- no tokens spell two
+  -- no list of tokens spells two values of a language
   pub whole_unique : F [] → (ts : List Lexeme) (a b : A) → L ts a → L ts b → a ≡ b
   whole_unique stop ts a b h k = some_is a b (sym (whole_again stop ts a h) ∙ whole_again stop ts b k)

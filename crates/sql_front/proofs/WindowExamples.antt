@@ -20,25 +20,25 @@ use Rattle.sql_front.proofs.QueryExamples.{select_from, selected_from}
 
 -- ---- moments and windows
 
--- TIMESTAMP '2024-01-01 00:00:00'
+-- the tokens of TIMESTAMP '2024-01-01 00:00:00'
 abbrev earlier : List Lexeme
 earlier = word (codes "TIMESTAMP") ∷ quoted_text (codes "'2024-01-01 00:00:00'") ∷ []
 
--- TIMESTAMP '2024-01-03 12:30:15'
+-- the tokens of TIMESTAMP '2024-01-03 12:30:15'
 abbrev later : List Lexeme
 later = word (codes "TIMESTAMP") ∷ quoted_text (codes "'2024-01-03 12:30:15'") ∷ []
 
--- FOR SYSTEM_TIME FROM and TO
+-- the tokens of FOR SYSTEM_TIME FROM and TO
 abbrev from_to : List Lexeme → List Lexeme → List Lexeme
 from_to start end = word (codes "FOR") ∷ word (codes "SYSTEM_TIME") ∷ word (codes "FROM") ∷ start ++ word (codes "TO") ∷ end
 
--- FOR SYSTEM_TIME BETWEEN and AND
+-- the tokens of FOR SYSTEM_TIME BETWEEN and AND
 abbrev between : List Lexeme → List Lexeme → List Lexeme
 between start end = word (codes "FOR") ∷ word (codes "SYSTEM_TIME") ∷ word (codes "BETWEEN") ∷ start ++ word (codes "AND") ∷ end
 
 -- ---- the window of a stored query
 
--- SELECT * FROM T
+-- the tokens of SELECT * FROM T, and more
 abbrev pub stored_from : List Lexeme → List Lexeme
 stored_from rest = word (codes "SELECT") ∷ sign (codes "*") ∷ word (codes "FROM") ∷ word (codes "T") ∷ rest
 

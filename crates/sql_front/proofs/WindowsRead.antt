@@ -34,7 +34,7 @@ level_window k =
 pub starts_for_window : Starts (any_of (word (codes "FOR") ∷ [])) IsForWindow
 starts_for_window = starts_preceded (keyword (codes "FOR")) (Preceded (keyword (codes "SYSTEM_TIME")) IsWindow)
 
--- before what does not begin with FOR
+-- a system-time window is read before tokens that do not begin with FOR
 pub reads_for_window : (ends : List Sort) → all_differ ends (word (codes "FOR") ∷ []) ≡ true → Reads (Optional IsForWindow) (Next ends) for_window_read
 unfolding for_window_read
 reads_for_window ends e =

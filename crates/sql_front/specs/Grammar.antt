@@ -370,7 +370,7 @@ module _ (literals : Literals) where
   -- pred = span ( OVERLAPS | EQUALS ) span
   --      | span CONTAINS ( span | date )
   --      | span [ IMMEDIATELY ] ( PRECEDES | SUCCEEDS ) span
-  -- (first those of two spans, then the one of a span and a date)
+  -- (first the predicates of two spans, then the one of a span and a date)
   abbrev pub IsPredicate : Language StoredTest
   IsPredicate =
       Choice (Built periods_of (Sequence IsPeriodOperand (Sequence IsRelation IsPeriodOperand)))
@@ -378,7 +378,7 @@ module _ (literals : Literals) where
       (Preceded (keyword (codes "CONTAINS")) IsDate)))
 
   -- pcond = cond, in which a test may also be pred
-  -- (here what a test may be beside parentheses: pred | operand cmp operand)
+  -- (here the tests that are not in parentheses: pred | operand cmp operand)
   abbrev pub IsStoredTest : Language StoredTest
   IsStoredTest = Choice IsPredicate (Built Values IsCompare)
 

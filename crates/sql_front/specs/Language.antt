@@ -1,4 +1,4 @@
--- The ways in which a language is made of others.
+-- The ways in which a language is made of simpler ones.
 use Rattle.std.specs.Prelude.{◌≡◌, ℕ, Bool, true, false, List, [], ◌∷◌, ◌++◌, ◌⊎◌, ◌&&◌, ◌||◌}
 use Rattle.std.specs.Prelude.{codes, Option, Some, None}
 use Rattle.std.specs.Str.{bytes_eq}
@@ -51,7 +51,7 @@ number lexeme = is_number lexeme.kind
 abbrev pub text : Lexeme → Bool
 text lexeme = is_text lexeme.kind
 
--- one test or the other
+-- a token meets one test or the other
 abbrev pub or_test : (Lexeme → Bool) → (Lexeme → Bool) → Lexeme → Bool
 or_test a b lexeme = a lexeme || b lexeme
 
@@ -85,7 +85,7 @@ Related {A} R L lexemes b = (a : A) × R a b × L lexemes a
 abbrev pub Denotes : {A : Type 0} → A → (Lexeme → Bool) → Language A
 Denotes a test = Built (λ (nothing : Unit {0}). a) (Fixed test)
 
--- the one or the other
+-- one language or the other
 abbrev pub Choice : {A : Type 0} → Language A → Language A → Language A
 Choice L M lexemes a = L lexemes a ⊎ M lexemes a
 
@@ -95,7 +95,7 @@ Repetition L lexemes [] = lexemes ≡ []
 Repetition L lexemes (a ∷ more) =
     (x : List Lexeme) × (y : List Lexeme) × (lexemes ≡ x ++ y) × L x a × Repetition L y more
 
--- once or not at all
+-- a language once or not at all
 abbrev pub Optional : {A : Type 0} → Language A → Language (Option A)
 Optional L lexemes None = lexemes ≡ []
 Optional L lexemes (Some a) = L lexemes a
@@ -108,13 +108,13 @@ Preceded {A} test L = Built (λ (pair : Unit {0} × A). pair.1) (Sequence (Fixed
 abbrev pub PrecededOrNot : {A : Type 0} → (Lexeme → Bool) → Language A → Language A
 PrecededOrNot test L = Choice (Preceded test L) L
 
--- one or more, with a separator between each two
+-- a language one or more times, with a separator between each two
 abbrev pub Separated : {A : Type 0} → (Lexeme → Bool) → Language A → Language (List A)
 Separated {A} separator L =
     Built (λ (pair : A × List A). pair.0 ∷ pair.1)
     (Sequence L (Repetition (Preceded separator L)))
 
--- in parentheses
+-- a language in parentheses
 abbrev pub Enclosed : {A : Type 0} → Language A → Language A
 Enclosed {A} L =
     Preceded (symbol (codes "("))

@@ -7,7 +7,7 @@ use Rattle.period_core.specs.Moments.{IsMomentText, forever}
 
 -- ---- numbers
 
--- the number of digits after others, which have this value
+-- the number of digits after earlier ones, which have this value
 abbrev pub number_of_digits_after : ℕ → List ℕ → ℕ
 number_of_digits_after value [] = value
 number_of_digits_after value (byte ∷ bytes) =

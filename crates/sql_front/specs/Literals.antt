@@ -4,7 +4,7 @@ use Rattle.sql_front.specs.Language.{Language, OneToken, Related, number, text}
 use Rattle.sql_front.specs.LiteralValues.{NamesClockMoment, NamesDay, NamesMoment, NamesNegative}
 use Rattle.sql_front.specs.LiteralValues.{NamesNumber}
 
--- the tokens that stand for numbers, days and moments
+-- the tokens that spell numbers, days and moments
 pub record Literals : Type 1 where
   -- a number without a sign, or with a plus
   pub plain_number : Language ℕ

@@ -43,7 +43,7 @@ spans_from start (part ∷ parts) =
 abbrev pub is_filled : Span → Bool
 is_filled span = nat_lt span.start span.end
 
--- the spans of the pieces of these tokens, in order, if the first of the tokens is at a place:
+-- the spans of the pieces of some tokens, in order, if the first token is at a place:
 -- of each two equal pieces each has its own
 abbrev pub HasSpans : ℕ → List Lexeme → List Span → Type 0
 HasSpans start tokens spans =

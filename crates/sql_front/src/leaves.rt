@@ -123,7 +123,7 @@ fn read_text<'a, 'b>(
 }
 
 /// A literal, and the tokens after it.
-// In line: what it returns is too large for registers, and would be copied for each literal.
+// Inlined: what it returns is too large for registers, and would be copied for each literal.
 #[inline(always)]
 #[tactic(auto, unfolding(crate::specs::reading::Leaves::date_read, crate::specs::reading::Leaves::literal_read))]
 pub fn read_literal<'a, 'b>(

@@ -73,7 +73,7 @@ pub(crate) fn cut_all<T: Lexed>(
     Ok(spans)
 }
 
-/// The pieces of these tokens, in order: what is between semicolons, if that is not empty.
+/// The pieces of a list of tokens, in order: what is between semicolons, if that is not empty.
 /// The last piece needs no semicolon.
 pub fn cut(alloc: Global, tokens: &[Token<'_>]) -> Result<Vec<Span>, Memory>
     ensures pieces { IfOk result

@@ -54,7 +54,7 @@ pub fn read_reference<'a, 'b>(
     ensures rest { IfOk result (λ x. length x.1.now ≤ length tokens.now) }
 {
     let (table, rest) = read_name(alloc, tokens)?;
-    // `?` on moments beside borrowed tokens has no rule
+    // `?` on moments has no rule while tokens are borrowed
     let (window, rest) = match read_for_window(rest) {
         Ok(read) => read,
         Err(error) => return Err(error),

@@ -44,7 +44,7 @@ pub fn is_terminal(token: &Token<'_>, want: Terminal<'_>) -> bool
 {
     match want {
         Terminal::Keyword(word) => {
-            // (most scripts have it as it stands here, which is seen without a look at each letter)
+            // (most scripts have it letter for letter, which is seen without a look at each letter)
             token.kind == TokenKind::Word && (token.text == word || is_same_word(token.text, word))
         }
         Terminal::Symbol(symbol) => {

@@ -14,8 +14,8 @@ use period_core::Moment;
 use sql_statements::statement::SystemTime;
 use sql_statements::token::Token;
 
-// Moments beside borrowed tokens are passed on by `match`: for a `?` there the borrow checker has
-// no rule.
+// Moments are passed on by `match` while tokens are borrowed: the borrow checker has no rule for
+// a `?` there.
 
 /// Two moments with this terminal between them, and the tokens after them.
 #[tactic(auto, unfolding(crate::specs::reading::WindowReaders::two_moments_read))]

@@ -7,7 +7,7 @@ use Rattle.std.proofs.Math.Seq.{take-length}
 use Rattle.std.proofs.lemmas.Bool.{ne_eqb, cases_lt, eqb-true, and_parts}
 use Rattle.sql_statements.specs.Lexis.{quoted_size, longer, begins_with}
 
--- the byte at a place
+-- the bytes from a place on begin with the byte at it
 front : (bytes : List ℕ) (i : ℕ) → i < length bytes → drop i bytes ≡ get_or bytes i 0 ∷ drop (i + 1) bytes
 front bytes i h = rw (add-one, drop-cons bytes i 0) refl
 
@@ -110,6 +110,6 @@ pair_fits bytes i h e =
       | inr le ↦ absurd (let none : begins_with "'" (drop (i + 1) bytes) ≡ false = rw (drop_all (i + 1) bytes le) refl in cc)
     ]
 
--- a range to the end
+-- the bytes from a place to the end
 pub to_end : (bytes : List ℕ) (i : ℕ) → take (length bytes - i) (drop i bytes) ≡ drop i bytes
 to_end bytes i = ap (λ (n : ℕ). take n (drop i bytes)) (sym (length-drop i bytes)) ∙ take-length (drop i bytes)

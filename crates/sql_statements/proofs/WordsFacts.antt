@@ -8,7 +8,7 @@ use Rattle.std.proofs.lemmas.List.{length-map}
 use Rattle.std.proofs.lemmas.Slice.Eq.{bytes_eq-Decides}
 use Rattle.sql_statements.specs.Words.{folded, is_among, reserved, is_reserved}
 
--- one of the words that the program has in memory
+-- a text is one of the words that the program has in memory
 pub among_texts : (text : List ℕ) (words : List (Bor (List ℕ))) → list_any (λ (word : Bor (List ℕ)). bytes_eq (folded text) (folded word.now)) words ≡ is_among text (map (λ (word : Bor (List ℕ)). word.now) words)
 among_texts text [] = refl
 among_texts text (word ∷ words) = ap (λ (b : Bool). bytes_eq (folded text) (folded word.now) || b) (among_texts text words)
@@ -22,12 +22,12 @@ among_same : (a b : List ℕ) (ws : List (List ℕ)) → folded a ≡ folded b �
 among_same a b [] e = refl
 among_same a b (w ∷ ws) e = ap (λ (t : List ℕ). bytes_eq t (folded w) || is_among a ws) e ∙ ap (λ (c : Bool). bytes_eq (folded b) (folded w) || c) (among_same a b ws e)
 
--- case tells nothing
+-- words that differ in case alone are both reserved or not
 pub reserved_same : (a b : List ℕ) → folded a ≡ folded b → is_reserved a ≡ is_reserved b
 unfolding is_reserved
 reserved_same a b e = among_same a b reserved e
 
--- ---- of the reserved words, those of about a length suffice
+-- ---- of the reserved words, the words of about a length suffice
 
 same_length : (a b : List ℕ) → folded a ≡ folded b → length a ≡ length b
 same_length a b e = sym (length-map a to_ascii_lowercase) ∙ ap length e ∙ length-map b to_ascii_lowercase

@@ -15,7 +15,7 @@ is_word_text (first ∷ rest) = is_letter first && list_all is_word_byte rest
 unfoldable pub is_plain_word : List ℕ → Bool
 is_plain_word text = is_word_text text && not (is_reserved text)
 
--- in upper case
+-- the text in upper case
 abbrev pub upper : List ℕ → List ℕ
 upper text = map to_ascii_uppercase text
 

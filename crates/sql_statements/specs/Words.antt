@@ -7,7 +7,7 @@ use Rattle.std.specs.Str.{bytes_eq}
 abbrev pub folded : List ℕ → List ℕ
 folded text = map to_ascii_lowercase text
 
--- one of the words, in any case
+-- the text is one of the words, in any case
 abbrev pub is_among : List ℕ → List (List ℕ) → Bool
 is_among text [] = false
 is_among text (w ∷ ws) = bytes_eq (folded text) (folded w) || is_among text ws

@@ -35,7 +35,7 @@ pub record IsLeft (old new : Option (List ℕ)) (rest whole : List ℕ) : Type 0
   pub appends : Appends old new written
   pub whole_is : written ++ rest ≡ whole
 
--- before the first row
+-- the report of an answer before its first row
 pub rows-start : (n : ℕ) (answer : Answer) (old mid new : Option (List ℕ)) (rows : List PeriodRow) (witnesses : List Witness)
     → rows ≡ answer.rows → witnesses ≡ answer.witnesses
     → Appends old mid (record_text (answer_record n answer)) → Appends mid new (record_text (columns_record n answer.columns))
@@ -46,7 +46,7 @@ rows-start n answer old mid new rows witnesses same beside first second = record
   whole_is = rw (same, beside) (append_assoc (record_text (answer_record n answer)) (record_text (columns_record n answer.columns)) (rows_text n answer.rows answer.witnesses));
 }
 
--- one row more
+-- the report of an answer, with one row more
 pub rows-step : (n : ℕ) (old mid new : Option (List ℕ)) (whole : List ℕ) (row : PeriodRow) (witness : Witness) (rows next : List PeriodRow) (witnesses after : List Witness)
     → rows ≡ row ∷ next → witnesses ≡ witness ∷ after
     → IsLeft old mid (rows_text n rows witnesses) whole → Appends mid new (record_text (row_record n (row, witness)))
@@ -63,7 +63,7 @@ no-rows : (n : ℕ) (rows : List PeriodRow) → rows_text n rows [] ≡ []
 no-rows n [] = refl
 no-rows n (row ∷ rows) = refl
 
--- after the last
+-- the report of an answer after its last row
 pub rows-end : (n : ℕ) (old new : Option (List ℕ)) (whole : List ℕ) (rows : List PeriodRow) (witnesses : List Witness)
     → (rows ≡ []) ⊎ (witnesses ≡ []) → IsLeft old new (rows_text n rows witnesses) whole → Appends old new whole
 rows-end n old new whole rows witnesses (inl e) left =
@@ -80,14 +80,14 @@ abbrev pub versions_text : ℕ → VersionList → List VersionColumn → List V
 versions_text n list columns rows =
     (record_text (versions_record n list) ++ record_text (names_record n columns)) ++ flat_map record_text (map (version_record n columns) rows)
 
--- before the first version
+-- the report of versions before the first one
 pub versions-start : (n : ℕ) (list : VersionList) (columns : List VersionColumn) (old mid new : Option (List ℕ)) → Appends old mid (record_text (versions_record n list)) → Appends mid new (record_text (names_record n columns)) →
     Appends old new (versions_text n list columns [])
 versions-start n list columns old mid new first second =
     let heads : List ℕ = record_text (versions_record n list) ++ record_text (names_record n columns) in
     rw (append-nil heads) (appends-more old mid new (record_text (versions_record n list)) (record_text (names_record n columns)) first second)
 
--- one version more
+-- the report of versions, with one more
 pub versions-step : (n : ℕ) (list : VersionList) (columns : List VersionColumn) (rows : List VersionRow) (place : ℕ) (row : VersionRow) (old mid new : Option (List ℕ)) → place < length rows → row ≡ get_or rows place row →
     Appends old mid (versions_text n list columns (take place rows)) → Appends mid new (record_text (version_record n columns row)) → Appends old new (versions_text n list columns (take (place + 1) rows))
 versions-step n list columns rows place row old mid new inside its so_far more =
@@ -104,7 +104,7 @@ versions-step n list columns rows place row old mid new inside its so_far more =
     append_assoc heads these it ∙ ap (λ (l : List ℕ). heads ++ l) (sym all) in
     subst (Appends old new) whole (appends-more old mid new (versions_text n list columns (take place rows)) it so_far more)
 
--- after the last
+-- the report of versions after the last one
 pub versions-end : (n : ℕ) (list : VersionList) (columns : List VersionColumn) (rows : List VersionRow) (place : ℕ) (old new : Option (List ℕ)) → columns ≡ list.columns → rows ≡ list.rows → length rows ≤ place →
     Appends old new (versions_text n list columns (take place rows)) → Appends old new (text_of n (Ok (outcome.Versions list)))
 versions-end n list columns rows place old new same these over so_far =

@@ -3,12 +3,12 @@ use Rattle.std.proofs.Common.{◌++◌, ◌∙◌, ℕ, List, [], Option, Some, 
 use Rattle.std.specs.Prelude.{OnOk}
 use Rattle.std.specs.Io.KnownBytes.{Appends, append_known}
 
--- before the first text
+-- the buffer before the first text
 pub kept-start : (known : Option (List ℕ)) → Appends known (append_known known []) []
 kept-start None = tt
 kept-start (Some xs) = refl
 
--- one text more is kept
+-- one text more is in the buffer
 pub kept-more : (known : Option (List ℕ)) (texts text : List ℕ) → Appends (append_known known texts) (append_known known (texts ++ text)) text
 kept-more None texts text = tt
 kept-more (Some xs) texts text = sym (append_assoc xs texts text)

@@ -1,4 +1,4 @@
--- The text of csv's writer, set up as the report's, is that of the report's records.
+-- The text of csv's writer, set up as the report's, is the text of the report's records.
 use Rattle.std.proofs.Common.{◌≡◌, ◌==◌, ◌≤◌, ◌∷◌, ℕ, Bool, true, false, List, [], length, refl, ◌∙◌, append_assoc, arith}
 use Rattle.std.specs.Prelude.{◌||◌}
 use Rattle.std.specs.List.{list_any}

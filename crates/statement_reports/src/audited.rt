@@ -1,4 +1,4 @@
-//! The report of an audited run: the records of each result, and after those of an answer the
+//! The report of an audited run: the records of each result, and after the records of an answer the
 //! record of its audit.
 
 ghost use Rattle.std.specs.Prelude.{◌≡◌, ◌++◌, IfErr, OnOk};
@@ -98,7 +98,7 @@ pub(crate) fn write_entry<W: ReportWriter>(
 }
 
 /// Writes the report of the entries, numbered from 1, in parts of some 64 KiB, each by one
-/// `write_all`: that of their results, and after the records of an answer the record of its audit.
+/// `write_all`: the report of their results, and after the records of an answer its audit's record.
 /// After a fault the writer may hold a part of the report.
 pub fn write_audited<W: ReportWriter>(
     alloc: Global,

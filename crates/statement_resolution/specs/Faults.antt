@@ -10,7 +10,7 @@ use Rattle.catalog_core.specs.RefusalConditions.{RefusalCondition}
 use Rattle.catalog_core.specs.Conditions.{tests_of}
 use Rattle.statement_resolution.specs.declared.faults.Faults.{Faults}
 
--- none of them
+-- no condition of a refusal holds
 abbrev pub no_faults : Faults
 no_faults = record {
   table = false;

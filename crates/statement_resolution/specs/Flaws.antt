@@ -96,7 +96,7 @@ abbrev pub is_flawed_side : Flaw → TableDef → Operand → Bool
 is_flawed_side flaw t (Column r) = is_flawed_column flaw t r
 is_flawed_side flaw t (Literal value) = false
 
--- the kind of a side: that of the column that it names, or a literal's
+-- the kind of a side: the kind of the column that it names, or of a literal
 abbrev pub side_kind : TableDef → Operand → Option ValueKind
 side_kind t side = judged.side_kind (own_matches t) side
 

@@ -16,7 +16,7 @@ abbrev pub or_zero : Option ℕ → ℕ
 or_zero None = 0
 or_zero (Some n) = n
 
--- by the places of columns
+-- a side of a comparison, by the places of columns
 abbrev pub place_side : (ColumnReference → ℕ) → Operand → Comparand
 place_side place (operand.Column r) = Position (place r)
 place_side place (operand.Literal value) = Literal value
@@ -30,7 +30,7 @@ place_compare place c =
       right = place_side place c.right;
     }
 
--- in a row of a table
+-- the place of a column in a row of a table
 abbrev pub table_place : TableDef → ColumnReference → ℕ
 table_place t r = or_zero (value_position t r.name)
 

@@ -4,7 +4,7 @@
 //! not prove the store anew. What to touch in order to add
 //!
 //! - a form of change or query: its conditions and what it is by positions in the folder of that
-//!   name in `specs/`, and a file beside `change/portion_changes.rt` or `query/resolution.rt`;
+//! name in `specs/`, and a file like `change/portion_changes.rt` or `query/resolution.rt`;
 //! - a refusal of a statement: the list of its conditions (`insert_conditions`,
 //!   `update_conditions`, `delete_conditions`, `refusals_of`, `stored_query_conditions`), and the
 //!   function that judges them (`shape_fault`, `value_fault`, `update_fault`, `delete_fault`,

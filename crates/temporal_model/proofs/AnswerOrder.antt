@@ -13,7 +13,7 @@ use Rattle.temporal_model.specs.Answer.{answer_cmp}
 pub answer_cmp_total : IsTotalOrder answer_cmp
 answer_cmp_total = then_total (on_total (λ (r : PeriodRow). r.values) values_cmp_total) (on_total (λ (r : PeriodRow). r.period.start) int_cmp_total)
 
--- at the same values the order is that of the first days
+-- at the same values the order is the order of the first days
 pub answer_cmp-same :
     (a b : PeriodRow) → a.values ≡ b.values → answer_cmp a b ≡ int_cmp a.period.start b.period.start
 answer_cmp-same a b e =

@@ -7,7 +7,7 @@ use Rattle.temporal_model.specs.Snapshot.{InSnapshot, IsDay}
 use Rattle.temporal_model.specs.Laws.{AgreementOnDaysSuffices, ConstantBetweenChanges}
 use Rattle.temporal_model.proofs.Snapshots.{held, in_snapshot}
 
--- rows hold on days alone
+-- rows hold on days only, and on no other number
 pub InSnapshot-IsDay :
     (rows : List PeriodRow) (day : ℤ) (values : List Value)
     → InSnapshot rows day values → IsDay day

@@ -40,7 +40,7 @@ pub AllPairs-head :
     → Contains xs y → R x y
 AllPairs-head R x xs all y (k, h, e) = subst (R x) e (all 0 (suc k) y (omega arith) (omega arith))
 
--- ys without a member
+-- a list without one of its members
 pub rest_of :
     {X : Type 0} (ys : List X) (y : X) → Contains ys y
     → (rest : List X) × IsPermutation ys (y ∷ rest)

@@ -1,4 +1,4 @@
--- The map from the rows of a certified list to those of an equivalent list, which sends no two rows to one.
+-- The map from the rows of a certified list to the rows of an equivalent list, which sends no two rows to one.
 use Rattle.std.proofs.Common.{◌≡◌, ℕ, zero, suc, [], ◌∷◌, ◌<◌, List, length, get_or, refl, sym, ◌∙◌, subst, inl, inr, arith}
 use Rattle.std.specs.List.{Contains}
 use Rattle.std.proofs.lemmas.List.{get_or_default}
@@ -9,13 +9,13 @@ use Rattle.temporal_model.specs.Answer.{IsCertified, SameBeginning}
 use Rattle.temporal_model.specs.Laws.{MapsOneToOne}
 use Rattle.temporal_model.proofs.Certificate.{begins_in}
 
--- the row at a place
+-- a place within a list has a row
 row_at : {X : Type 0} (xs : List X) (i : ℕ) → i < length xs → (x : X) × (x ≡ get_or xs i x)
 row_at [] i h = absurd (omega arith)
 row_at (x ∷ xs) zero h = (x, refl)
 row_at (x ∷ xs) (suc i) h = row_at xs i (omega arith)
 
--- the map from the rows of a certified list to those of an equivalent one
+-- the map from the rows of a certified list to the rows of an equivalent one
 pub maps_one_to_one :
     (rows others : List PeriodRow) → IsCertified rows → Equivalent rows others
     → MapsOneToOne rows others

@@ -65,7 +65,7 @@ pub held : (rows : List PeriodRow) (day : ℤ) (values : List Value) → InSnaps
 held [] day values h = absurd (Contains-nil values h)
 held (first ∷ rows) day values h = held_by first rows day values (row_covers day first) refl (held rows day values) h
 
--- the values of two lists on a day are those of the first and then those of the second
+-- the values of two lists on a day are the first's and then the second's
 pub values_on-append : (rows others : List PeriodRow) (day : ℤ) → values_on (rows ++ others) day ≡ values_on rows day ++ values_on others day
 values_on-append rows others day =
     ap (map (λ (row : PeriodRow). row.values)) (filter-append (row_covers day) rows others)
@@ -85,7 +85,7 @@ InSnapshot-start rows row c =
 pub Equivalent-refl : (xs : List PeriodRow) → Equivalent xs xs
 Equivalent-refl xs day vs = (λ h. h, λ h. h)
 
--- equivalence goes through a third list
+-- equivalence is transitive
 pub Equivalent-trans : (xs ys zs : List PeriodRow) → Equivalent xs ys → Equivalent ys zs → Equivalent xs zs
 Equivalent-trans xs ys zs p q day vs = (λ h. (q day vs).0 ((p day vs).0 h), λ h. (p day vs).1 ((q day vs).1 h))
 

@@ -48,7 +48,7 @@ pub witnessed_by_sets :
     → WitnessEachRow sets rows (map witness_of rows)
 witnessed_by_sets sets rows certified same = AllZip-map (IsWitness sets) witness_of rows (witness_of_certified sets rows certified same)
 
--- and so against the list's own snapshots
+-- each row of a certified list is witnessed against the list's own snapshots
 pub witnessed :
     (rows : List PeriodRow) → IsCertified rows
     → WitnessEachRow (InSnapshot rows) rows (map witness_of rows)

@@ -17,7 +17,7 @@ IsUniqueUpToOrder rows =
     (others : List PeriodRow) → Equivalent rows others
     → length others ≡ length rows → IsPermutation others rows
 
--- by values column by column, then by first day
+-- the order of answers: by values column by column, then by first day
 abbrev pub answer_cmp : PeriodRow → PeriodRow → Ordering
 answer_cmp a b =
     ordering_then (values_cmp a.values b.values) (int_cmp a.period.start b.period.start)

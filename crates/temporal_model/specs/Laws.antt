@@ -10,8 +10,8 @@ use Rattle.temporal_model.specs.Answer.{SameBeginning, IsCertified}
 abbrev pub CertifiedIsShortest : Type 0
 CertifiedIsShortest = (rows : List PeriodRow) → IsCertified rows → IsShortest rows
 
--- a map from the rows of one list, by their places, to the rows of another: each row goes to
--- a value-equivalent row that begins on the same day, and no two rows go to one
+-- a map from the rows of one list, by their places, to the rows of another: each row is sent to
+-- a value-equivalent row that begins on the same day, and no two rows to one
 pub record MapsOneToOne (rows others : List PeriodRow) : Type 0 where
   pub place : (i : ℕ) → i < length rows → ℕ
   pub inside : (i : ℕ) (h : i < length rows) → place i h < length others

@@ -49,7 +49,7 @@ stays g old new c was same catalog clock = record {
   dated = was.dated;
 }
 
--- a definition was put
+-- the store's contents after a definition was added
 pub table_put : (new : Database) (c : Contents) (d : TableDef) (bytes : List ℕ) → bytes ≡ written_table d → Represents new (with_definition bytes (written c)) → AllByRecursion IsReadable c.tables → IsReadable d → HaveColumnValues c.versions → Has new (with_table d c)
 table_put new c d bytes is made definitions one held = record {
   rows = subst (λ (ts : List (List ℕ)). Represents new (record (written c) { tables = ts })) (ap (λ b. map written_table c.tables ++ b ∷ []) is ∙ sym (map-append written_table c.tables (d ∷ []))) made;

@@ -1,4 +1,4 @@
--- The tables of others in a store's database, over one call after another.
+-- The other tables of a store's database, over one call after another.
 use Rattle.std.proofs.Common.{◌≡◌, sym, subst}
 use Rattle.sqlite.specs.Held.{Held, state}
 use Rattle.sqlite.specs.Store.{Ghosts}
@@ -10,7 +10,7 @@ use Rattle.version_store.specs.StoreState.{IsUsable, SparesOthers}
 pub spares_same : {S : Type 0} (g : Ghosts S) (a b : Held S) → (IsUsable g b → (state g b).now ≡ (state g a).now) → SparesOthers g a b
 spares_same g a b same usable clean has = keeps_same _ _ (same usable)
 
--- two calls that spare the tables of others spare them together
+-- two calls that spare the other tables spare them together
 pub spares_then : {S : Type 0} (g : Ghosts S) (a b c : Held S) → SparesOthers g a b → (IsUsable g c → IsUsable g b) → SparesOthers g b c → SparesOthers g a c
 spares_then g a b c p was q usable clean has =
     let before = was usable in

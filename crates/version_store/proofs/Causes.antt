@@ -89,7 +89,7 @@ written_own (v ∷ vs) held distinct = (go vs held.1 distinct.0, written_own vs 
     go [] held2 apart = tt
     go (w ∷ ws) held2 apart = (same_bytes v w held.0 held2.0 ∙ apart.0, go ws held2.1 apart.1)
 
--- ---- a row that is added beside versions that are still to be removed
+-- ---- a row that is added while versions are still to be removed
 
 module _ (table : ℕ) (moment : ℤ) where
   pending_same : (keys : List VersionKey) (v w : Version) → same_key v w ≡ true → is_pending table moment keys w ≡ is_pending table moment keys v
@@ -123,7 +123,7 @@ module _ (table : ℕ) (moment : ℤ) where
         let kept = all-permutation (λ w. same_key (new_of table moment row) w ≡ false) _ _ (IsPermutation-sym _ _ has.others) (other_bytes c.versions has.values apart) in
         from_filter (is_pending table moment keys) (λ w. same_key (new_of table moment row) w ≡ false) has.versions kept (other_pending keys (new_of table moment row) none)
 
-  -- rows that are added where none is to be removed
+  -- rows that are added if none is to be removed
   module _ (rows : List PeriodRow) (held : AllByRecursion (λ (row : PeriodRow). All IsColumnValue row.values) rows) (db : Database) (c : Contents) (has : HasExcept db table moment [] c) where
     short_new : (rows : List PeriodRow) → AllByRecursion (λ (row : PeriodRow). IsShort (encoded row.values)) rows → AllByRecursion (λ (v : Version). IsShort v.values) (map (new_of table moment) rows)
     short_new [] short = tt

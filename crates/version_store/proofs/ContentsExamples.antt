@@ -22,7 +22,7 @@ february = record { table = 1; values = Int (pos 7) ∷ []; start = pos 31; end 
 abbrev filled : Contents
 filled = record { tables = []; clock = pos 9; versions = january ∷ february ∷ [] }
 
--- the two months as periods
+-- January and February as periods
 abbrev january_days : Period
 january_days = record { start = pos 0; end = pos 31; ordered = omega (arith, ints); days = (omega (arith, ints), omega (arith, ints)) }
 
@@ -39,7 +39,7 @@ old_february = record { values = Int (pos 7) ∷ []; period = february_days; fro
 abbrev new_january : PeriodRow
 new_january = record { values = Int (pos 8) ∷ []; period = january_days }
 
--- at moment 9 the row of January is closed, that of February is removed, since it began then
+-- at moment 9 the row of January is closed; the row of February is removed, since it began then
 both-ended : (planned 1 (pos 9) (old_january ∷ old_february ∷ []) (new_january ∷ []) filled).versions
     ≡ record january { to = pos 9 } ∷ (record { table = 1; values = Int (pos 8) ∷ []; start = pos 0; end = pos 31; from = pos 9; to = forever }) ∷ []
 both-ended = refl

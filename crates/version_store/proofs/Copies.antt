@@ -46,7 +46,7 @@ version_put old now table row values c was made =
     has_permuted now (record c { versions = v ∷ c.versions }) (c.versions ++ v ∷ []) (IsPermutation-sym _ _ (IsPermutation-to_front c.versions v))
     (record { rows = made (written c) was.rows; definitions = was.definitions; values = (values, was.values) })
 
--- as the statement adds it
+-- a copied row as the statement adds it
 pub row_put : (table n : ℕ) (row : VersionRow) (new : NewRow) (news : List NewRow) → n ≡ table → news ≡ new ∷ [] → new.key.values.items ≡ encoded row.values → new.key.start ≡ row.period.start → new.end ≡ row.period.end
     → map (new_version n row.from row.to) news ≡ written_version (version_in table row) ∷ []
 row_put table n row new news is one values start end =

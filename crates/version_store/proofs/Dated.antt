@@ -15,7 +15,7 @@ use Rattle.version_store.specs.GoodStore.{IsGoodVersionIn}
 use Rattle.version_store.specs.Units.{version_of}
 use Rattle.version_store.proofs.Units.{end_is, moment_is}
 
--- a good version is dated
+-- the period and the system time of a good version are dated
 pub good_is_dated : (form : Form) (tables : List TableDef) (clock : ℤ) (v : TableVersion) → IsGoodVersionIn form tables clock v → IsDated (version_of form v)
 good_is_dated form tables clock v good = record { days = good.days; from = moment_is form v.from good.moments.from_is; to = end_is form v.to good.moments.to_is }
 

@@ -29,7 +29,7 @@ use Rattle.version_store.specs.Written.{IsReadable, written_table, written_versi
 
 -- ---- definitions
 
--- bytes are of one definition
+-- bytes are of at most one definition
 pub same_written : (a b : TableDef) → IsReadable a → IsReadable b → written_table a ≡ written_table b → a ≡ b
 same_written a b ra rb same = same_definition a b (written_table a) ra (rb.0, rb.1, sym same)
 
@@ -45,7 +45,7 @@ same_blob row n m a b e f =
 pub same_table : (before : List TableDef) (row : Row) (a b : TableDef) → IsTableRow before row a → IsTableRow before row b → a ≡ b
 same_table before row a b ra rb = same_written a b ra.readable rb.readable (same_blob row _ _ (written_table a) (written_table b) ra.spelled rb.spelled)
 
--- the row behind those that were read
+-- the row after the rows that were read
 pub at_place : (before : List TableDef) (rows : List Row) (i : ℕ) (xs ts : List TableDef) (e : Row) → AreTableRows before rows ts → AreTableRows before (take i rows) xs → i < length rows
     → (d : TableDef) × IsTableRow (before ++ xs) (get_or rows i e) d
 at_place before [] i xs ts e all part low = absurd (omega arith)

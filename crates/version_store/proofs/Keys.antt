@@ -29,7 +29,7 @@ pub keys_kept : (db : Database) → HasStoreTables db.schema → IsDatabase db �
 keys_kept db has sound untied ints vs held same =
     versions_apart vs held (ascending_from_map (λ a b. alike b a ≡ false) stored_version vs (shown_differ (db.trees 2) (map stored_version vs) untied ints (database_apart db has sound) same))
 
--- so the contents that it has are of distinct keys
+-- the versions of a database's contents have distinct keys
 pub keys_of : (db : Database) (c : Contents) → Has db c → IsDatabase db → HaveDistinctKeys c.versions
 keys_of db c has sound =
     keys_kept db has.rows.schema sound has.rows.untied has.rows.keyed c.versions has.values

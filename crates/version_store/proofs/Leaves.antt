@@ -131,7 +131,7 @@ module _ (table : ℕ) (moment : ℤ) (row : PeriodRow) (values : All IsColumnVa
     values = more_held c was.values;
   }
 
-  -- at the place of one that is to leave
+  -- a row is added at the place of one that is to leave
   pub replaces : (old now : Database) (key : Version) (before after : List VersionKey) (c : Contents) → HasExcept old table moment before c → is_pending table moment after new ≡ false
       → ((v : Version) → is_pending table moment before v ≡ (same_key key v || is_pending table moment after v))
       → ((m : Records) → Represents old m → Represents now (added new (removed key m))) → HasExcept now table moment after (added_at table moment (row ∷ []) c)
@@ -145,7 +145,7 @@ module _ (table : ℕ) (moment : ℤ) (row : PeriodRow) (values : All IsColumnVa
     values = more_held c was.values;
   }
 
--- ---- rows are added where none is to leave
+-- ---- rows are added if none is to leave
 
 module _ (table : ℕ) (moment : ℤ) where
   abbrev pub new_of : PeriodRow → Version
@@ -185,7 +185,7 @@ leaves old now table moment key before after c was fewer made = record {
   values = was.values;
 }
 
--- ---- the version with a key, where its ends move
+-- ---- the version with a key, if its ends move
 
 module _ (table : ℕ) (values : List ℕ) (start from end to : ℤ) where
   abbrev k : Version
@@ -226,12 +226,12 @@ module _ (table : ℕ) (values : List ℕ) (start from end to : ℤ) where
   none_left [] n is none = refl
   none_left (v ∷ vs) n is none = absurd (omega (arith, is, none))
 
-  -- one has the key: it is as if it were removed and the other added
+  -- if one version has the key, a change is its removal and an addition
   pub one_moved : (db : Database) (m : Records) (n : ℕ) → n ≡ length (filter (same_key k) m.versions) → n ≡ 1 → Represents db (changed k (with_ends end to) m) → Represents db (added moved (removed k m))
   one_moved db m n is one made =
       subst (λ l. Represents db (record m { versions = l ++ filter (λ v. not (same_key k v)) m.versions })) (all_become m.versions ∙ as_many (filter (same_key k) m.versions) n is one) made
 
-  -- none has it
+  -- if no version has the key, a change and a removal are the same
   pub none_moved : (db : Database) (m : Records) (n : ℕ) → n ≡ length (filter (same_key k) m.versions) → n ≡ 0 → Represents db (changed k (with_ends end to) m) → Represents db (removed k m)
   none_moved db m n is none made =
       subst (λ l. Represents db (record m { versions = map (with_ends end to) l ++ filter (λ v. not (same_key k v)) m.versions })) (none_left (filter (same_key k) m.versions) n is none) made
@@ -249,7 +249,7 @@ pub same_moved : (old new : Database) (count n : ℕ) (bytes : List ℕ) (start 
     → (m : Records) → Represents old m → Represents new (changed (key_at table moment row.key) (with_ends row.end forever) m) × (count ≡ length (filter (same_key (key_at table moment row.key)) m.versions))
 same_moved old new count n bytes start from end to table moment row is_table are_bytes is_start is_from is_end is_to made = rw (is_table, are_bytes, is_start, is_from, is_end, is_to) at made
 
--- the place of a row that began at the moment is that of its key
+-- the place of a row that began at the moment is the place of its key
 pub same_place : (table : ℕ) (moment : ℤ) (row : VersionRow) (place : VersionKey) → place.values.items ≡ encoded row.values → place.start ≡ row.period.start → moment ≡ row.from
     → (v : Version) → same_key (key_at table moment place) v ≡ same_key (written_version (version_in table row)) v
 same_place table moment row place values start from v =

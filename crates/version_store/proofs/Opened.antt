@@ -26,7 +26,7 @@ opened_new g store c was = record {
   dated = was.dated;
 }
 
--- and it is accepted as it is
+-- a store in microseconds is accepted as it is
 pub accepted_as_it_is : {S : Type 0} (g : Ghosts S) (opened : OpenedState S) (c : Contents) → opened.form ≡ Microseconds → OpenedRepresents g opened c → StoreRepresents g opened.store c
 accepted_as_it_is g opened c form was =
     let units : was.counted ≡ c = sym (same_units was.counted) ∙ subst (λ (f : Form). in_microseconds f was.counted ≡ c) form was.same in

@@ -255,7 +255,7 @@ module _ (form : Form) where
       let t : w.to ≡ v.to = cc in
       record { days = subst₂ AreDays s e is.days; from = subst (λ n. IsMomentNumber (moment_in form n)) f is.from; to = subst (λ n. IsMomentNumber (end_in form n)) t is.to }
 
--- a good store's versions
+-- a good store's versions are dated
 pub good_dated : {db : Database} (good : IsGoodStore NoExtraCondition db) → AreDated (in_microseconds good.form good.contents).versions
 good_dated good =
     let c = good.contents in

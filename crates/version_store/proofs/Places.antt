@@ -56,7 +56,7 @@ module _ (table : ℕ) (moment : ℤ) (k : VersionKey) (v : Version) where
       ap (λ n. (v.table == table) && (is_eq (slice_cmp nat_cmp v.values n) && (is_eq (int_cmp v.start x.start) && is_eq (int_cmp v.from moment)))) (sym values)
       ∙ ap (λ n. (v.table == table) && (is_eq (slice_cmp nat_cmp v.values k.values.items) && (is_eq (int_cmp v.start n) && is_eq (int_cmp v.from moment)))) (sym start)
 
-  -- a place more
+  -- one place more is still to be removed
   pub one_more : (ps : List VersionKey) → is_pending table moment (insert_key place_cmp ps k) v ≡ (same_key (key_at table moment k) v || is_pending table moment ps v)
   one_more [] = refl
   one_more (x ∷ ps) = go (place_cmp k x) refl (one_more ps)

@@ -38,7 +38,7 @@ none_at [] (suc place) none = refl
 none_at (l ∷ ls) zero none = none
 none_at (l ∷ ls) (suc place) none = none_at ls place none
 
--- a list more without rows
+-- one table more, without rows
 pub none_more : (ls : List (List VersionRow)) → ((number : ℕ) → rows_of_table ls number ≡ []) → (number : ℕ) → rows_of_table (ls ++ [] ∷ []) number ≡ []
 none_more ls none zero = refl
 none_more ls none (suc place) = none_at ls place (none (suc place))
@@ -47,7 +47,7 @@ pub no_lists : (number : ℕ) → rows_of_table [] number ≡ []
 no_lists zero = refl
 no_lists (suc place) = refl
 
--- without contents there are no versions
+-- the contents of no list are empty
 pub none_of_nothing : (lists : List (List VersionRow)) → lists ≡ [] → AreVersionsOf empty_contents lists
 none_of_nothing lists none number =
     let empty : rows_of_table lists number ≡ [] = ap (λ (l : List (List VersionRow)). rows_of_table l number) none ∙ no_lists number in
@@ -69,7 +69,7 @@ set_elsewhere (l ∷ ls) zero (suc other) new off = refl
 set_elsewhere (l ∷ ls) (suc place) zero new off = refl
 set_elsewhere (l ∷ ls) (suc place) (suc other) new off = set_elsewhere ls place other new (λ same. off (ap suc same))
 
--- the rows of a table stay when those of another are set
+-- the rows of a table stay when another table's are set
 pub others_stay : (ls : List (List VersionRow)) (place : ℕ) (new : List VersionRow) (other : ℕ) → (other ≡ suc place → ⊥) → rows_of_table (set ls place new) other ≡ rows_of_table ls other
 others_stay ls place new zero off = refl
 others_stay ls place new (suc other) off = set_elsewhere ls place other new (λ same. off (ap suc same))
@@ -119,7 +119,7 @@ none_read form tables clock rows lists long none = record {
   count = long;
 }
 
--- the number of a row that is read is that of a table
+-- the number of a row that is read is a table's
 pub number_of_table : (form : Form) (tables : List TableDef) (clock : ℤ) (row : Row) (n : ℕ) (read : VersionRow) → IsReadAs form tables clock row n read → (0 < n) × (n ≤ length tables)
 number_of_table form tables clock row n read (v, is, good, same) =
     let table : n ≡ v.table = ap (λ (w : TableVersion). w.table) same in
@@ -134,7 +134,7 @@ all_behind : {A : Type 0} (P : A → Type 0) (xs : List A) (x : A) (ys : List A)
 all_behind P [] x ys all = all.0
 all_behind P (y ∷ xs) x ys all = all_behind P xs x ys all.1
 
--- a row more
+-- one row more is read
 pub one_read : (form : Form) (tables : List TableDef) (clock : ℤ) (rows rest left : List Row) (old new : List (List VersionRow)) (row : Row) (n : ℕ) (read : VersionRow) → AreReadBefore form tables clock rows rest old → rest ≡ row ∷ left
     → IsReadAs form tables clock row n read → HasMore n read old new → AreReadBefore form tables clock rows left new
 one_read form tables clock rows rest left old new row n read was next (v, is, good, same) more =

@@ -99,7 +99,7 @@ TookShown form next table old new given =
     (done : List TableVersion) → AllByRecursion (λ (v : TableVersion). (v.table == table) ≡ true) done → HaveColumnValues done → given ≡ as_given done
     → Took form next table old new done
 
--- one row is taken
+-- the visitor took one row
 abbrev pub TookOne : {M : Type 0} → Form → (M → VersionRow → M) → M → M → Row → Type 0
 TookOne form next old new row =
     (v : TableVersion) → row ≡ shown (written_version v) → All IsColumnValue v.values → (read : VersionRow) × (version_in v.table read ≡ version_of form v) × (new ≡ next old read)
@@ -117,7 +117,7 @@ chosen_in form table selection chooses vs sure =
     ap (λ p. map (version_of form) (filter p (of_table table vs))) same
     ∙ sym (ap (filter is_chosen) (filter-map (λ (v : TableVersion). v.table == table) (version_of form) vs) ∙ filter-map is_chosen (version_of form) (of_table table vs))
 
--- the first of the versions in order, and the others
+-- the first of the versions in order, and the rest
 first_are : (form : Form) (c : Contents) (table : ℕ) (selection : Selection) (chooses : ℤ → ℤ → Bool) (ys : List TableVersion) (n : ℕ) (rows : List VersionRow) → Selects form selection chooses → IsPermutation (chosen_of table (selects selection) c.versions) ys
     → IsSorted version_cmp ys → map (version_in table) rows ≡ map (version_of form) (take n ys) → AreFirst (in_microseconds form c) table chooses rows (map (version_of form) (drop n ys))
 first_are form c table selection chooses ys n rows sure same up is =
@@ -135,7 +135,7 @@ first_are form c table selection chooses ys n rows sure same up is =
 heads : (a b : Row) (xs ys : List Row) → ◌≡◌ {A = List Row} (a ∷ xs) (b ∷ ys) → (a ≡ b) × (xs ≡ ys)
 heads a b xs ys e = (cc, cc)
 
--- one row more shows one version more
+-- a query that gives one row more shows one version more
 last_shown : (table : ℕ) (given : List Row) (row : Row) (done : List TableVersion) → given ++ row ∷ [] ≡ as_given done → AllByRecursion (λ (v : TableVersion). (v.table == table) ≡ true) done → HaveColumnValues done
     → (d : List TableVersion) × (v : TableVersion) × (done ≡ d ++ v ∷ []) × (given ≡ as_given d) × AllByRecursion (λ (w : TableVersion). (w.table == table) ≡ true) d × HaveColumnValues d × (row ≡ shown (written_version v)) × ((v.table == table) ≡ true) × All IsColumnValue v.values
 last_shown table [] row [] e of held = absurd cc
@@ -160,7 +160,7 @@ one_more form next table old mid new given row was taken done of held shows =
 
 -- ---- the answer of a scan
 
--- no row was read
+-- no row is read yet
 pub none_yet : (c : Contents) (table : ℕ) (chooses : ℤ → ℤ → Bool) → AreFirst c table chooses [] (chosen_of table chooses c.versions)
 none_yet c table chooses = record {
   all = IsPermutation-refl _;
@@ -276,7 +276,7 @@ abbrev pub HasVisited : {S M : Type 0} → Ghosts S → Form → (M → VersionR
 HasVisited g form next table selection first now old new = (given : List Row) × HasGivenRows g table selection first now given × TookShown form next table old new given
 
 module _ {S M : Type 0} (g : Ghosts S) (form : Form) (next : M → VersionRow → M) (table : ℕ) (selection : Selection) (first : Held S) where
-  -- no row was given
+  -- no row is given to the visitor yet
   pub none_visited : (now : Held S) (n : ℕ) (old : M) → n ≡ table → HasGivenRows g n selection first now [] → HasVisited g form next table selection first now old old
   none_visited now n old same begun = ([], subst (λ t. HasGivenRows g t selection first now []) same begun, none)
     where
@@ -296,7 +296,7 @@ module _ {S M : Type 0} (g : Ghosts S) (form : Form) (next : M → VersionRow �
       let shows = was.1.rows clean (written_in form c) has.rows in
       visits {X = Unit {0}} form next c table selection chooses old new (Err refusal) shows.1.0 was.0 shows.0 sure has.values shows.1.1 shows.1.2 (subst (λ m. TookShown form next table old m was.0) (sym same) was.2) tt
 
-  -- the end of the query
+  -- the visitor has visited all rows at the end of the query
   pub all_visits : (before now : Held S) (old new : M) (was : HasVisited g form next table selection first before old new) (after : Option Row) → GivesNext g table selection first now was.0 after → after ≡ None
       → HasCleanDisk (state g now) → (c : Contents) → HasIn form (state g first).now c → (chooses : ℤ → ℤ → Bool) → Selects form selection chooses
       → VisitsChosen next (in_microseconds form c) table chooses old new (let r : Result (Unit {0}) Refusal = Ok (tt {0}) in r)

@@ -128,19 +128,19 @@ module _ (old new : Database) (table : ℕ) (moment : ℤ) (row : VersionRow) (n
   pub same_ended : ((m : Records) → Represents old m → Represents new (ended (version n bytes start start from from) to m)) → (m : Records) → Represents old m → Represents new (ended (written_version (version_in table row)) moment m)
   same_ended made = rw (is_table, are_bytes, is_start, is_from, is_to) at made
 
--- the clock goes on
+-- the clock is set to the moment
 pub clock_moved : (old new : Database) (moment n : ℤ) → n ≡ moment → ((m : Records) → Represents old m → Represents new (with_clock n m)) → (c : Contents) → Has old c → Has new (clock_in moment c)
 clock_moved old new moment n same made c was =
     let rows = subst (λ k. (m : Records) → Represents old m → Represents new (with_clock k m)) same made in
     record { rows = rows (written c) was.rows; definitions = was.definitions; values = was.values }
 
--- ---- one row after others
+-- ---- one row more, at the end
 
 flat_twice : {A B C : Type 0} (g : B → List C) (f : A → List B) (xs : List A) → flat_map g (flat_map f xs) ≡ flat_map (λ x. flat_map g (f x)) xs
 flat_twice g f [] = refl
 flat_twice g f (x ∷ xs) = flat_map-append g (f x) (flat_map f xs) ∙ ap (λ l. flat_map g (f x) ++ l) (flat_twice g f xs)
 
--- the remains of remains
+-- the remains of a version's remains are its remains
 left_again : (table : ℕ) (moment : ℤ) (rows : List VersionRow) (row : VersionRow) (v : TableVersion) (a : Bool) → flat_map (remains_of table moment (row ∷ [])) (cond a (closed_at moment v) (v ∷ [])) ≡ cond (a || same_version (version_in table row) v) (closed_at moment v) (v ∷ [])
 left_again table moment rows row v true = began (is_eq (int_cmp v.from moment)) refl
   where

@@ -65,7 +65,7 @@ pub end_is : (form : Form) (n : ℤ) → IsNumberIn form n → IsMomentNumber (e
 end_is Seconds n is = end_cases IsMomentNumber n (omega (arith, ints), omega (arith, ints)) (moment_is Seconds n is)
 end_is Microseconds n is = is
 
--- and back
+-- a moment in a form's unit is a moment's number there
 pub number_of_moment : (form : Form) (n : ℤ) → IsMomentNumber (moment_in form n) → IsNumberIn form n
 number_of_moment Seconds n is = (omega (arith, ints, is.0), omega (arith, ints, is.1))
 number_of_moment Microseconds n is = is
@@ -128,7 +128,7 @@ all_good form c is good =
     all-map (IsGoodVersion c.tables (moment_in form c.clock)) (version_of form) c.versions
     (all_weaker (IsGoodVersionIn form c.tables c.clock) (λ (v : TableVersion). IsGoodVersion c.tables (moment_in form c.clock) (version_of form v)) (λ v one. good_version form c.tables c.clock v is one) c.versions good)
 
--- the order of versions is that of their seconds
+-- the order of versions is the order of their seconds
 same_order : (a b : ℤ) → int_cmp (second_start a) (second_start b) ≡ int_cmp a b
 same_order a b = grind (arith, nat_tests, ints)
 
@@ -179,7 +179,7 @@ have_seconds (v ∷ vs) dated = ((number_of_moment Seconds v.from dated.0.from, 
 pub are_in_seconds : (c : Contents) (clock : ℤ) → clock ≡ (in_microseconds Seconds c).clock → AreDated (in_microseconds Seconds c).versions → AreInSeconds clock (written_in Seconds c)
 are_in_seconds c clock same dated = (sym same, have_seconds c.versions dated)
 
--- and short ones were short
+-- versions that are short in a form's unit are short
 pub were_short : (form : Form) (vs : List TableVersion) → HaveShortValues (map (version_of form) vs) → AreShort (map written_version vs)
 were_short form [] short = tt
 were_short form (v ∷ vs) short = (short.0, were_short form vs short.1)
@@ -188,7 +188,7 @@ pub short_in : (form : Form) (vs : List TableVersion) → HaveShortValues vs →
 short_in form [] short = tt
 short_in form (v ∷ vs) short = (short.0, short_in form vs short.1)
 
--- values stay
+-- values are the same in a form's unit
 pub values_in : (form : Form) (vs : List TableVersion) → HaveColumnValues vs → HaveColumnValues (map (version_of form) vs)
 values_in form [] held = tt
 values_in form (v ∷ vs) held = (held.0, values_in form vs held.1)

@@ -12,11 +12,11 @@ use Rattle.version_store.specs.Contents.{version_in}
 use Rattle.version_store.specs.DistinctKeys.{HaveDistinctKeys}
 use Rattle.version_tables.specs.Healthy.{IsShort}
 
--- one more table, after the others
+-- one more table, at the end
 abbrev pub with_table : TableDef → Contents → Contents
 with_table definition c = record c { tables = c.tables ++ definition ∷ [] }
 
--- another clock
+-- the contents with another clock
 abbrev pub with_clock : ℤ → Contents → Contents
 with_clock moment c = record c { clock = moment }
 

@@ -66,7 +66,7 @@ same_version k v =
     && (is_eq (values_cmp v.values k.values)
     && (is_eq (int_cmp v.start k.start) && is_eq (int_cmp v.from k.from)))
 
--- by values, then period start, then system start
+-- the order of versions: by values, then period start, then system start
 abbrev pub version_cmp : TableVersion → TableVersion → Ordering
 version_cmp =
     then_cmp (on (λ v. v.values) values_cmp)
@@ -110,6 +110,6 @@ pub record IsDated (v : TableVersion) : Type 0 where
   pub from : IsMomentNumber v.from
   pub to : IsMomentNumber v.to
 
--- all of them are
+-- all versions are dated
 abbrev pub AreDated : List TableVersion → Type 0
 AreDated = AllByRecursion IsDated

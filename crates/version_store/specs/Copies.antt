@@ -8,11 +8,11 @@ use Rattle.version_store.specs.Contents.{Contents, version_in}
 use Rattle.version_store.specs.StoreState.{IsUsable}
 use Rattle.version_store.specs.Written.{Has}
 
--- more tables, after the others
+-- more tables, at the end
 abbrev pub with_tables : List TableDef → Contents → Contents
 with_tables definitions c = record c { tables = c.tables ++ definitions }
 
--- more versions of a table, after the others
+-- more versions of a table, at the end
 abbrev pub with_versions : ℕ → List VersionRow → Contents → Contents
 with_versions table rows c = record c { versions = c.versions ++ map (version_in table) rows }
 
@@ -34,6 +34,6 @@ CommitsMore g old new result P change =
 abbrev pub without_versions : List TableDef → ℤ → Contents
 without_versions tables clock = record { tables = tables; clock = clock; versions = [] }
 
--- the contents without the versions of the tables after that of the number
+-- the contents without the versions of the tables after the one with the number
 abbrev pub up_to : ℕ → Contents → Contents
 up_to number c = record c { versions = filter (λ v. nat_le v.table number) c.versions }

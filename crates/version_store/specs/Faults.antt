@@ -7,11 +7,11 @@ use Rattle.version_store.specs.declared.fault.OpenFault.TheVariants.{BadStore, S
 use Rattle.version_store.specs.declared.fault.StoreFault.{StoreFault}
 use Rattle.version_store.specs.declared.fault.StoreFault.TheVariants.{Memory}
 
--- over an open connection: memory ran out, or there was a fault of the database since
+-- a fault over an open connection: memory ran out, or there was a fault of the database since
 abbrev pub IsCaused : State → State → StoreFault → Type 0
 IsCaused old new fault = IsTrue old.is_open → (fault ≡ Memory) ⊎ HasFault old new
 
--- rows that are judged are those of no good store, or memory ran out
+-- the judged rows belong to no good store, or memory ran out
 abbrev pub IsJudgement : OpenFault → Type 0
 IsJudgement fault = (fault ≡ BadStore) ⊎ (fault ≡ Store Memory)
 

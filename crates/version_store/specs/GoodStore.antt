@@ -25,7 +25,7 @@ use Rattle.version_store.specs.RowValues.{are_row_values}
 use Rattle.version_store.specs.Units.{in_microseconds, version_of}
 use Rattle.version_store.specs.Written.{IsReadable, written_in, written_table, written_version}
 
--- the version's table is there, its values are those of a row of it, its period is one of days, its
+-- the version's table exists, its values belong to a row of it, its period is one of days, its
 -- system time one of moments up to the clock, in the unit of the form
 pub record IsGoodVersionIn (form : Form) (tables : List TableDef) (clock : ℤ) (v : TableVersion)
     : Type 0 where
@@ -40,7 +40,7 @@ pub record IsGoodVersionIn (form : Form) (tables : List TableDef) (clock : ℤ) 
 abbrev pub IsGoodVersion : List TableDef → ℤ → TableVersion → Type 0
 IsGoodVersion = IsGoodVersionIn Microseconds
 
--- each version is of a table that is there
+-- each version's table exists
 abbrev pub HaveTables : Contents → Type 0
 HaveTables c =
     AllByRecursion (λ v. (d : TableDef) × (table_of c.tables v.table ≡ Some d)) c.versions
@@ -52,12 +52,12 @@ AreLawful before (d ∷ more) = IsLawful before d × AreLawful (before ++ d ∷ 
 
 -- the points that are judged; what keys and references ask of the contents is a parameter
 pub record IsGoodStore (Constrained : Contents → Type 0) (db : Database) : Type 0 where
-  -- the contents that it represents: the rows of the three tables are those of these contents, in
+  -- the contents that it represents: the rows of the three tables are the rows of the contents, in
   -- the unit of this form
   pub form : Form
   pub contents : Contents
   pub says : HasRecords db (written_in form contents)
-  -- 1: the three tables are there, as the store makes them; those of others follow them
+  -- 1: the three tables exist, as the store makes them; all other tables follow them
   pub tables_there : HasStoreTables db.schema
   -- 2: the one row of bt_meta has form 1 or 2, as `written_in` says, and a clock
   pub clock : IsClock form contents.clock
@@ -74,7 +74,7 @@ pub record IsGoodStore (Constrained : Contents → Type 0) (db : Database) : Typ
   -- 6: keys and references
   pub constrained : Constrained (in_microseconds form contents)
 
--- contents, in microseconds, of which the points 2 to 4 and 6 hold: 5 holds of what a database has
+-- contents, in microseconds, for which the points 2 to 4 and 6 hold; point 5 is of a database
 pub record AreGood (Constrained : Contents → Type 0) (c : Contents) : Type 0 where
   pub clock : IsClock Microseconds c.clock
   pub few : length c.tables ≤ most_tables
@@ -82,7 +82,7 @@ pub record AreGood (Constrained : Contents → Type 0) (c : Contents) : Type 0 w
   pub versions : AllByRecursion (IsGoodVersion c.tables c.clock) c.versions
   pub constrained : Constrained c
 
--- no more is asked: the points 1 to 5 alone
+-- no condition more is asked: the points 1 to 5 alone
 abbrev pub NoExtraCondition : Contents → Type 0
 NoExtraCondition c = Unit {0}
 
@@ -119,7 +119,7 @@ pub record HasTimesOf (form : Form) (row : Row) (read : VersionRow) : Type 0 whe
   pub from : (n : ℤ) × IsNumberAt row 4 n × (read.from ≡ moment_in form n)
   pub to : (n : ℤ) × IsNumberAt row 5 n × (read.to ≡ end_in form n)
 
--- a row of bt_version is read as a version row of the table of a number: it is that of a good
+-- a row of bt_version is read as a version row of the table of a number: it is the row of a good
 -- version, and the version row is this in microseconds
 abbrev pub IsReadAs : Form → List TableDef → ℤ → Row → ℕ → VersionRow → Type 0
 IsReadAs form tables clock row number read =

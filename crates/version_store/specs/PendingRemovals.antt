@@ -32,8 +32,8 @@ pub record HasExcept (db : Database) (table : ℕ) (moment : ℤ) (pending : Lis
   pub definitions : AllByRecursion IsReadable c.tables
   pub values : HaveColumnValues c.versions
 
--- on Ok the transaction goes on, the contents are changed, and so are the keys of those that are
--- still to be removed
+-- on Ok the transaction stays open, the contents are changed, and so are the keys of the versions
+-- that are still to be removed
 abbrev pub CarriesExcept : {S X E : Type 0} → Ghosts S → Held S → Held S → Result X E
     → ℕ → ℤ → List VersionKey → List VersionKey → (Contents → Contents) → Type 0
 CarriesExcept g old new result table moment before after change =

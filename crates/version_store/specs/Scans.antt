@@ -25,8 +25,8 @@ chosen_of table chooses versions = filter (λ v. chooses v.from v.to) (of_table 
 abbrev pub seen_of : ℕ → Window → List TableVersion → List TableVersion
 seen_of table window = chosen_of table (window_sees window)
 
--- the rows are the first of the chosen versions, each once and in order: the rest are the others,
--- none of which is before one of the rows
+-- the rows are the first of the chosen versions, each once and in order, and the rest are the other
+-- chosen ones, none of which is before one of the rows
 pub record AreFirst (c : Contents) (table : ℕ) (chooses : ℤ → ℤ → Bool) (rows : List VersionRow)
     (rest : List TableVersion) : Type 0 where
   pub all : IsPermutation (chosen_of table chooses c.versions)

@@ -11,7 +11,7 @@ use Rattle.version_store.specs.Faults.{IsCaused}
 use Rattle.version_store.specs.Written.{Has}
 use Rattle.version_store.specs.declared.fault.StoreFault.{StoreFault}
 
--- on Ok the transaction goes on, and the contents of the database are changed
+-- on Ok the transaction stays open, and the contents of the database are changed
 abbrev pub Carries : {S X E : Type 0} → Ghosts S → Held S → Held S → Result X E
     → (Contents → Contents) → Type 0
 Carries g old new result change =
@@ -78,7 +78,7 @@ CommitsHealthy g old new result used =
     HasCleanDisk (state g new) → (left : ℕ) → IsHealthy (used + left) (state g old).now
     → (c : Contents) → Has (state g old).now c → OnOk result (IsHealthy left (state g new).now)
 
--- so it does of a database of which P holds, and none of the room is used up
+-- the call does so of a database of which P holds, and none of the room is used up
 abbrev pub CommitsHealthyWhere : {S X E : Type 0} → Ghosts S → Held S → Held S → Result X E
     → (Database → Type 0) → Type 0
 CommitsHealthyWhere g old new result P =

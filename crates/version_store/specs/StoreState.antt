@@ -40,7 +40,7 @@ store_state_code {S} store =
     (λ p. record { connection = p.0; catalog = p.1.0; clock = p.1.1 })
     (λ _. refl)
 
--- so far the disk has returned what was written, and no failure has shut the connection
+-- the disk has returned what was written so far, and no failure has shut the connection
 abbrev pub IsUsable : {S : Type 0} → Ghosts S → Held S → Type 0
 IsUsable g connection = HasCleanDisk (state g connection) × IsTrue (state g connection).is_open
 
@@ -48,12 +48,12 @@ IsUsable g connection = HasCleanDisk (state g connection) × IsTrue (state g con
 abbrev pub MemoryIsUsable : Type 0
 MemoryIsUsable = (connection : Held MemStore) → IsUsable over_memory connection
 
--- if the connection is usable as a call ends, others have in its database what they had, if the
--- store's three tables come before theirs
+-- if the connection is usable as a call ends, the other tables of its database are as they were, if
+-- the store's three tables come before them
 abbrev pub SparesOthers : {S : Type 0} → Ghosts S → Held S → Held S → Type 0
 SparesOthers g old new = IsUsable g new → LeavesOthers g old new
 
--- the database has these contents, as they were last committed, and so has what is kept in memory;
+-- the database has the contents, as they were last committed, and so has the store in memory;
 -- their versions can be read
 pub record StoreRepresents {S : Type 0} (g : Ghosts S) (store : StoreState S) (c : Contents)
     : Type 0 where
@@ -78,7 +78,7 @@ opened_state_code {S} store =
     (λ _. refl)
 
 -- the database has contents, as they were last committed, which are in microseconds these; and so
--- has what is kept in memory
+-- has the store in memory
 pub record OpenedRepresents {S : Type 0} (g : Ghosts S) (opened : OpenedState S) (c : Contents)
     : Type 0 where
   pub counted : Contents
@@ -116,7 +116,7 @@ pub record IsOnlyRead {S : Type 0} (g : Ghosts S) (old new : StoreState S) : Typ
 abbrev pub IsStoreRefusal : Refusal → Type 0
 IsStoreRefusal refusal = (refusal ≡ Memory) ⊎ (refusal ≡ Store)
 
--- a new store was added after what others have, whose tables have the rows that they had; and that
+-- a new store was added after the other tables, which have the rows that they had; and that
 -- is committed
 abbrev pub IsCreatedAfter : State → State → Type 0
 IsCreatedAfter old new =
@@ -132,7 +132,7 @@ IsFailure g old new refusal = (refusal ≡ Memory) ⊎ HasFault (state g old) (s
 abbrev pub IsOpenRefusal : Refusal → Type 0
 IsOpenRefusal refusal = (refusal ≡ BadStore) ⊎ IsStoreRefusal refusal
 
--- the three tables, if all of them are there, are as the store makes them; those of others
+-- the three tables, if all of them exist, are as the store makes them; all other tables
 -- follow them
 abbrev pub OwnTablesAreWellFormed : Schema → Type 0
 OwnTablesAreWellFormed schema = HasEachStoreTable schema → HasStoreTables schema

@@ -81,7 +81,7 @@ pub(crate) fn write_versions<S: Alter>(
     Ok(())
 }
 
-/// Adds the definition of a table, which gets this number, after the others.
+/// Adds the definition of a table, which gets this number, at the end.
 fn write_definition<S: Alter>(
     alloc: Global,
     connection: &mut Connection<S>,

@@ -1,4 +1,4 @@
-//! A store that is there, judged.
+//! The judge of a store's rows, as its database has them.
 
 ghost use Rattle.std.specs.Prelude.{◌≡◌, [], false, IfErr, IfOk, IsTrue};
 ghost use Rattle.sqlite.specs.Held.{state};
@@ -26,7 +26,7 @@ use version_tables::{
     version_rows,
 };
 
-/// Judges a store that is there. On `Ok` it has its tables, its form, its clock, a number in the
+/// Judges a store's rows. On `Ok` it has its tables, its form, its clock, a number in the
 /// form's unit, and the version rows of each table.
 pub(crate) fn inspect<S: Alter>(
     alloc: Global,

@@ -1,4 +1,4 @@
-//! A plan, step by step inside a transaction: rows end, others are added, and last those are
+//! A plan, step by step inside a transaction: rows end, new ones are added, and last those are
 //! removed that ended as they began, if none was added with their key.
 
 ghost use Rattle.std.specs.Prelude.{◌≡◌, ◌∷◌, [], length, OnOk};

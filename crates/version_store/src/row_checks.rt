@@ -116,7 +116,7 @@ fn no_rows(alloc: Global, count: usize) -> Result<Vec<Items<VersionRow>>, Memory
     Ok(lists)
 }
 
-/// Adds a row to the list of the table of a number, which is there.
+/// Adds a row to the list of the table of a number, which exists.
 fn push_row(lists: &mut Vec<Items<VersionRow>>, number: u8, row: VersionRow) -> Result<(), Memory>
     requires { (0 < number) × (number ≤ length lists.old.items) }
     ensures { OnOk result (HasMore number row lists.old.items lists.new.items) }

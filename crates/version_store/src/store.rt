@@ -1,4 +1,4 @@
-//! The store: what is kept in memory over a connection.
+//! The store: its definitions and its clock in memory, over a connection.
 
 ghost use Rattle.std.specs.Prelude.{◌≡◌, ◌⊎◌, ◌<◌, ◌≤◌, ◌<ℤ◌, ◌≤ℤ◌, ◌++◌, ◌∷◌, [], ℕ, List};
 ghost use Rattle.std.specs.Prelude.{IfErr, IfOk, IsOk, IsTrue, None, OnErr, OnOk, false, length};
@@ -41,7 +41,7 @@ pub mod copied;
 pub mod opened;
 
 /// The tables' definitions, the clock and the version rows in a database. The definitions and the
-/// clock are kept in memory too. No transaction is open on its connection.
+/// clock are in memory too. No transaction is open on its connection.
 #[derive(Drop)]
 pub struct VersionStore<S: Alter> {
     connection: Connection<S>,
@@ -75,7 +75,7 @@ fn take_last(alloc: Global, catalog: &mut Catalog)
 
 impl<S: Alter> VersionStore<S> {
     /// Makes the store's tables in a database that has none of them, in one transaction: a store
-    /// without tables, whose clock is the first moment. They follow the tables of others, which are
+    /// without tables, whose clock is the first moment. They follow all other tables, which are
     /// left as they are; if there are none, the database is healthy, with room for as many
     /// versions as there are numbers, and they are refused for memory or a fault alone. On `Err`
     /// nothing is changed, the connection is returned, and no transaction is open on it.
@@ -264,7 +264,7 @@ impl<S: Alter> VersionStore<S> {
 
     /// Passes the version rows of the table of a number that the window sees to the visitor, one at
     /// a time: by values, then period start, then system start. The visitor has refused no row
-    /// before. Its refusal ends the scan and is answered; every other is out of memory, or comes of
+    /// before. Its refusal ends the scan and is answered; any other is out of memory, or caused by
     /// a fault of the database. On `Err` the visitor has received some of the first rows. Nothing
     /// is changed. If the window is empty, no row is passed, and the database is not called.
     pub fn scan<V: RowVisitor>(

@@ -49,7 +49,7 @@ pub(crate) fn write_plan<S: Alter>(
     Ok(())
 }
 
-/// Adds the bytes of the definition that follows the others.
+/// Adds the bytes of the definition that follows the last one.
 fn put_table<S: Alter>(
     transaction: &mut Transaction<'_, S>,
     number: u32,
@@ -90,7 +90,7 @@ fn put_clock<S: Alter>(
     Ok(())
 }
 
-/// Adds the bytes of the definition that follows the others in one transaction, or nothing.
+/// Adds the bytes of the definition that follows the last one in one transaction, or nothing.
 pub(crate) fn write_table<S: Alter>(
     connection: &mut Connection<S>,
     number: u32,

@@ -20,7 +20,7 @@ use sqlite::Row;
 use std::alloc::Global;
 use version_tables::{Form, bytes_at, number_at};
 
-/// The day at a place of a row, if its number is there.
+/// The day at a place of a row, if it has a day's number.
 fn day_at(row: &Row, at: usize) -> Option<Day>
     ensures { MatchOption result (¬ ((n : ℤ) × IsNumberAt row.now at n × IsDayNumber n))
         (λ day. IsNumberAt row.now at day) }
@@ -32,7 +32,7 @@ fn day_at(row: &Row, at: usize) -> Option<Day>
     }
 }
 
-/// The moment at a place of a row, if a number is there that is one in the form's unit.
+/// The moment at a place of a row, if it has the number of one in the form's unit.
 fn moment_at(row: &Row, form: Form, at: usize) -> Option<Moment>
     ensures { MatchOption result (¬ ((n : ℤ) × IsNumberAt row.now at n × IsNumberIn form n))
         (λ moment. (n : ℤ) × IsNumberAt row.now at n × (moment ≡ moment_in form n)) }
@@ -40,7 +40,7 @@ fn moment_at(row: &Row, form: Form, at: usize) -> Option<Moment>
     form.moment(number_at(row, at)?)
 }
 
-/// The moment at which a system time ends whose end is at a place of a row.
+/// The end of a system time, which a row has at a place.
 fn end_at(row: &Row, form: Form, at: usize) -> Option<Moment>
     ensures { MatchOption result (¬ ((n : ℤ) × IsNumberAt row.now at n × IsNumberIn form n))
         (λ moment. (n : ℤ) × IsNumberAt row.now at n × (moment ≡ end_in form n)) }
@@ -48,7 +48,7 @@ fn end_at(row: &Row, form: Form, at: usize) -> Option<Moment>
     form.end(number_at(row, at)?)
 }
 
-/// The period at two places of a row, if its days are there.
+/// The period at two places of a row, if they have days' numbers.
 fn period_at(row: &Row, start: usize, end: usize) -> Option<Period>
     ensures { MatchOption result
         (¬ ((s e : ℤ) × IsNumberAt row.now start s × IsNumberAt row.now end e × AreDays s e))
@@ -57,8 +57,8 @@ fn period_at(row: &Row, start: usize, end: usize) -> Option<Period>
     Period::new(day_at(row, start)?, day_at(row, end)?)
 }
 
-/// The version row of these values that has the period and the system time of a row of bt_version,
-/// if its days and moments are there. Its numbers are in the form's unit.
+/// The version row with these values, and the period and the system time of a row of bt_version,
+/// if it has numbers of days and moments. Its numbers are in the form's unit.
 pub(crate) fn dated_row(form: Form, row: &Row, values: Values) -> Option<VersionRow>
     ensures { MatchOption result
         ((v : TableVersion) → IsDated (version_of form v) → row.now ≢ stored (written_version v))

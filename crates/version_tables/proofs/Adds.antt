@@ -440,7 +440,7 @@ some_rows rows (inr (inr (inl e))) = omega (arith, e)
 some_rows rows (inr (inr (inr (inl e)))) = omega (arith, e)
 some_rows rows (inr (inr (inr (inr e)))) = omega (arith, e)
 
--- the number behind the one before
+-- the number after the one before
 pub next_after_last : (first : ℤ) (db : Database) → IsNextNumber ((first -ℤ pos 1) +ℤ pos 1) db → IsNextNumber first db
 next_after_last first db next = let same : (first -ℤ pos 1) +ℤ pos 1 ≡ first = grind (arith, ints) in subst (λ n. IsNextNumber n db) same next
 

@@ -96,7 +96,7 @@ module _ (others : Others) (bare : AllByRecursion (λ i. 4 ≤ i.table) others.i
   meta_small id form clock (inr (i, inl first, is, not_entry)) = absurd (let other = ap (λ (i : Index). i.table) first in omega (arith, is, other))
   meta_small id form clock (inr (i, inr there, is, not_entry)) = not_theirs i 0 (omega arith) there is
 
--- ---- the references of others hold as they did
+-- ---- the references of other tables hold as they did
 
 module _ (others : Others) (apart : AllByRecursion IsApart others.tables) (db next : Trees) (same : AllByRecursion (λ t. next t.tree ≡ db t.tree) others.tables) where
   held_same : (places : List ℕ) (row : Row) (key : _) → IsKeyOf (λ t. next t ≡ db t) key → is_held next places row key ≡ is_held db places row key
@@ -204,7 +204,7 @@ pub fits_64 : (n : ℤ) → least_integer ≤ℤ n → n ≤ℤ greatest_integer
 fits_64 (pos n) low high = grind (arith, nat_tests, ints)
 fits_64 (negsuc n) low high = grind (arith, nat_tests, ints)
 
--- new rows are such rows
+-- new rows with their numbers are rows that the three tables may have
 pub numbers_own : (first : ℤ) (vs : List Version) → AllByRecursion (λ (v : Version). IsShort v.values) vs → least_integer ≤ℤ first → (first +ℤ pos (length vs)) ≤ℤ (greatest_integer +ℤ pos 1) → AllByRecursion IsOwnRow (number_from first vs)
 numbers_own first [] short low high = tt
 numbers_own first (v ∷ vs) short low high =

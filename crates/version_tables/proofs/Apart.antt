@@ -1,4 +1,4 @@
--- No foreign key of a table of others acts where a row of one of the three goes.
+-- No foreign key of another table acts if a row of one of the three is removed.
 use Rattle.std.proofs.Common.{◌≡◌, ℕ, ◌≤◌, ◌<◌, ◌==◌, ◌||◌, length, List, [], ◌∷◌, codes, cond, Bool, true, false, Some, None, Ok, refl, arith}
 use Rattle.std.specs.Prelude.{Option, IfSome, option_and_then, option_map}
 use Rattle.std.specs.List.{AllByRecursion, filter_map, find, flat_map}
@@ -19,7 +19,7 @@ use Rattle.sqlite_trees.proofs.ListLemmas.{all_weaker}
 use Rattle.sqlite_value.specs.declared.keys.Order.{Order}
 use Rattle.version_tables.specs.Tables.{IsApart, Others, is_own_name, schema_with}
 
--- ---- the key that a reference of others points to is in a tree of theirs
+-- ---- the key that another table's reference points to is in a tree of another table
 
 module _ (P : ℕ → Type 0) where
   abbrev pub IsKeyOf : Option ParentKey → Type 0
@@ -73,6 +73,6 @@ module _ (others : Others) (apart : AllByRecursion IsApart others.tables) (tree 
   pub no_works : works (schema_with others) keys 0 tree olds news ≡ []
   no_works = none_over others.tables apart
 
--- so a write of one of the first trees is its one step
+-- a write of one of the first trees is its one step
 pub one_step_with : (others : Others) → AllByRecursion IsApart others.tables → (keys : Keys) (db next : Trees) (edit : Edit) → edit.table.tree < 4 → Writes (schema_with others) keys db edit (Ok next) → Applies (schema_with others) keys db edit next
 one_step_with others apart keys db next edit low writes = one_step (schema_with others) keys db next edit (no_works others apart edit.table.tree low keys (taken_by db edit) edit.news) writes

@@ -36,7 +36,7 @@ use Rattle.version_tables.proofs.Shows.{pos_eq}
 abbrev pub agrees : Row → Row → Bool
 agrees s r = agree (version_index 3).order (1 ∷ 2 ∷ 3 ∷ 5 ∷ []) s (1 ∷ 2 ∷ 3 ∷ 5 ∷ []) r
 
--- another row of the same key
+-- two rows have the same key and are not one row
 abbrev pub rivals : Row → Row → Bool
 rivals s r = agrees s r && differ (rowid s) (rowid r)
 
@@ -205,7 +205,7 @@ module _ (others : Others) (bare : AllByRecursion (λ i. 4 ≤ i.table) others.i
       (λ row none. rw (any_none (λ s. rivals s row) (next 2) none) (unguarded (version_table 2) (omega arith) others.indexes bare next row)) (next 2) own in
       (meta, (definitions, (versions, theirs others.tables same was.1.1.1)))
 
--- and so it was
+-- the rows before have no two with one key either
 pub unique_rows : (others : Others) (db : Trees) → Keeps Unique (schema_with others) db → Apart (db 2)
 unique_rows others db keeps =
     all_weaker _ (λ r. AllByRecursion (λ s. rivals s r ≡ false) (db 2)) (λ r passed. none_any (λ s. rivals s r) (db 2) (not_true _ _ passed)) (db 2) keeps.1.1.0

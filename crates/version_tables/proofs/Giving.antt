@@ -30,7 +30,7 @@ never_returns : (selection : Selection) (schema : Schema) (r : Result Compiled C
 never_returns selection schema (Ok c) is some = absurd (let e = rw (understood_none schema (select_text selection) (select_reads selection) c is) at some in cc)
 never_returns selection schema (Err e) is some = some
 
--- the query has no recursion
+-- the query has no recursion, and so ends
 ends_alone : (selection : Selection) (s : State) (m : Records) → Represents s.now m → (c : Compiled) → understood s.now.schema (select_text selection) ≡ Ok c → (db : Database) (params : Row) → EndsIn c.command db params
 ends_alone selection s m stands c is db params =
     let text = select_text selection in
@@ -57,7 +57,7 @@ module _ {S : Type 0} (g : Ghosts S) (table : ℕ) (selection : Selection) (firs
   begins now (inl h) = h
   begins now (inr h) = absurd (never_returns selection first.schema _ refl h.0)
 
-  -- the rows so far are the first
+  -- the rows given so far are the first of the query's rows
   are_first : (now : Held S) (given : List Row) → HasGiven g text params now given → IsUnchanged (state g first) (state g now) → AreFirst (state g first).now table selection given
   are_first now given h same m stands =
       let s = state g now in
@@ -117,7 +117,7 @@ module _ {S : Type 0} (g : Ghosts S) (table : ℕ) (selection : Selection) (firs
       left = record { clean = λ clean. was.left.clean (still_clean clean); keeps = λ clean. as_it_was (same_so_far clean (same clean)); mode = mode was.left.mode; faults = counted };
     }
 
-    -- the database after an error
+    -- the records are as before after an error
     keeps : (e : Error) → Fails (state g before) (state g now) ⊥ e ⊎ IsUnchanged (state g before) (state g now) → HasCleanDisk (state g now) → Keeps (state g first) (state g now)
     keeps e (inl failed) clean =
         let so_far = (was.unchanged (still_clean clean)).0 in

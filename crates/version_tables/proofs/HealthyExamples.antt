@@ -1,4 +1,4 @@
--- Two rows with room behind them, the same in another order, and an index that others lay over bt_version.
+-- Two rows with room after them, the same rows in another order, and another program's index over bt_version.
 use Rattle.std.proofs.Common.{◌≡◌, ◌∙◌, ◌-◌, ◌∷◌, [], List, Less, arith, codes, pos, refl, sym, ap}
 use Rattle.std.proofs.lemmas.Int.{ints}
 use Rattle.period_core.specs.Encoding.{greatest_number}
@@ -15,11 +15,11 @@ one = Int (pos 1) ∷ []
 abbrev two : Row
 two = Int (pos 2) ∷ []
 
--- behind row 2 there are all greater numbers
+-- all greater numbers follow row 2
 all-greater : HaveRoomFor (greatest_number - 2) (one ∷ two ∷ [])
 all-greater = record { rise = ((value_cmp-Int (pos 1) (pos 2), tt), (tt, tt)); low = (omega (arith, ints), (omega (arith, ints), tt)); high = (omega (arith, ints), (omega (arith, ints), tt)); few = omega arith }
 
--- and no more
+-- the rows have no room for one more
 no-more : HaveRoomFor (greatest_number - 1) (one ∷ two ∷ []) → ⊥
 no-more room = let high = room.high.1.0 in absurd (omega (arith, ints, high))
 
@@ -27,10 +27,10 @@ no-more room = let high = room.high.1.0 in absurd (omega (arith, ints, high))
 other-order : HaveRoomFor 0 (two ∷ one ∷ []) → ⊥
 other-order room = absurd (let e = sym (value_cmp-Int (pos 2) (pos 1)) ∙ room.rise.0.0 in cc)
 
--- the index of the key is no index of others
+-- the index of the key is no other program's
 own-index : HasNoIndexOfOthers store_schema
 own-index = tt
 
--- one over the tree of bt_version is
+-- an index over the tree of bt_version is another program's
 index-over : HasNoIndexOfOthers (schema_with (record nothing_else { indexes = record (version_index 5) { name = codes "theirs" } ∷ [] })) → ⊥
 index-over bare = let far = bare.0 in absurd (omega (arith, far))

@@ -1,4 +1,4 @@
--- A statement that writes rows of one of the three tables leaves what others have.
+-- A statement that writes rows of one of the three tables leaves all other tables.
 use Rattle.std.proofs.Common.{◌≡◌, ◌≢◌, ◌<◌, ◌∙◌, ℕ, List, [], ◌∷◌, Bool, true, false, inl, inr, None, Some, Ok, Err, Result, OnOk, IsTrue, slice_get, ap, refl, sym, subst, arith}
 use Rattle.std.specs.Prelude.{MatchBool, Option, if◌then◌else◌}
 use Rattle.std.specs.List.{AllByRecursion}
@@ -38,7 +38,7 @@ rows_then : (tables : List Table) (a b c : Trees) → KeepsRows tables a b → K
 rows_then [] a b c p q = tt
 rows_then (t ∷ more) a b c p q = (q.0 ∙ p.0, rows_then more a b c p.1 q.1)
 
--- two statements that keep the tables of others keep them together
+-- two statements that keep the other tables keep them together
 pub keeps_then : (a b c : Database) → KeepsOthers a b → KeepsOthers b c → KeepsOthers a c
 keeps_then a b c p q = record {
   schema_is = q.schema_is ∙ p.schema_is;
@@ -56,7 +56,7 @@ same_rows : (tables : List Table) (a : Trees) → KeepsRows tables a a
 same_rows [] a = tt
 same_rows (t ∷ more) a = (refl, same_rows more a)
 
--- a database that is as it was keeps the tables of others
+-- a database that is as it was keeps the other tables
 pub keeps_same : (a b : Database) → b ≡ a → KeepsOthers a b
 keeps_same a b same = subst (KeepsOthers a) (sym same) (record { schema_is = refl; others = same_rows (following_tables a.schema) a.trees })
 
@@ -167,7 +167,7 @@ module _ {at : ℕ} {table : Table} (own : IsOwn at table) where
         subst (λ s. KeepsOthers (record old.now { schema = s }) new.now) (sym has.schema_is)
         (rows_keep others has.apart old.step_limit (mode_of old) params old.now.trees command it.0 new.now edits rows)
 
-    -- by the clauses of `Transaction::execute`
+    -- a statement leaves the other tables, by the clauses of `Transaction::execute`
     pub statement_leaves : {S : Type 0} (g : Ghosts S) (old new : Held S) (r : Result ℕ Error) → (old.in_transaction ≡ false → (r ≡ Err (SqliteFailure TransactionState)) × (new ≡ old))
         → (HasCleanDisk (state g new) → IsTrue old.in_transaction → ExecutesInside 0 text params (state g old) (state g new) r) → OnOk r (LeavesOthers g old new)
     statement_leaves g old new (Err e) ended runs = tt

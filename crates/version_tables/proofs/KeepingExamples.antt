@@ -1,4 +1,4 @@
--- A worked database in which others keep notes, and changes that keep what they have or do not.
+-- A worked database with another table, of notes, and changes that keep it or do not.
 use Rattle.std.proofs.Common.{ℕ, List, [], ◌∷◌, length, pos, ap, refl, arith}
 use Rattle.std.specs.Prelude.{codes}
 use Rattle.sqlite.specs.Change.{with_index, with_view}
@@ -24,7 +24,7 @@ beside_notes = schema_with (record nothing_else { tables = notes ∷ [] })
 abbrev row : List ℕ → Row
 row bytes = Int (pos 1) ∷ Null ∷ Blob bytes ∷ []
 
--- one definition and one note
+-- a database with one definition and one note
 abbrev with_bytes : List ℕ → List ℕ → Database
 with_bytes definition note = record {
   schema = beside_notes;
@@ -34,7 +34,7 @@ with_bytes definition note = record {
 abbrev filled : Database
 filled = with_bytes (2 ∷ []) (97 ∷ [])
 
--- the definition is another: the notes are kept, as are the schema's objects
+-- another definition: the notes are as they were, and so are the schema's objects
 definition_changed : KeepsOthers filled (with_bytes (3 ∷ []) (97 ∷ []))
 definition_changed = record { schema_is = refl; others = (refl, tt) }
 

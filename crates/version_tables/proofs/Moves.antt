@@ -78,7 +78,7 @@ ended_is s is = ap (λ b. if b then Int forever else times (Int s)) (test_is s) 
 
 -- ---- one version
 
--- the columns of the new row, by those of the old one
+-- the columns of the new row, from the old row's
 abbrev with_moments : Row → Row
 with_moments b = cast Integer (column b 0) ∷ column b 1 ∷ cast Integer (column b 2) ∷ cast Integer (column b 3) ∷ cast Integer (times (column b 4)) ∷ cast Integer (ended (column b 5)) ∷ []
 

@@ -1,4 +1,4 @@
--- The numbers that the database gives to rows of bt_version that are added, where its rows stand in the order of theirs.
+-- The numbers that the database gives to rows that are added to bt_version, if its rows are in the order of their numbers.
 use Rattle.std.proofs.Common.{◌≡◌, ◌∙◌, ℕ, ℤ, pos, suc, ◌+◌, ◌-◌, ◌≤◌, ◌<◌, ◌+ℤ◌, ◌<ℤ◌, ◌≤ℤ◌, List, [], ◌∷◌, ◌++◌, map, filter, fold, length, Bool, true, false, Some, refl, sym, ap, subst, arith, Less}
 use Rattle.std.specs.Prelude.{slice_get, option_map}
 use Rattle.std.specs.List.{AllByRecursion}

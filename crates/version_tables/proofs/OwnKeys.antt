@@ -34,7 +34,7 @@ own_after (x ∷ xs) ys own = own_after xs ys own.1
 swapped : (xs ys zs : List Version) → IsPermutation (xs ++ (ys ++ zs)) (ys ++ (xs ++ zs))
 swapped xs ys zs = subst (λ l. IsPermutation l (ys ++ (xs ++ zs))) (append_assoc xs ys zs) (subst (IsPermutation ((xs ++ ys) ++ zs)) (append_assoc ys xs zs) (IsPermutation-append_left zs (xs ++ ys) (ys ++ xs) (IsPermutation-append_comm xs ys)))
 
--- a part of what can be added can be added behind an earlier part
+-- a part of the rows that can be added can be added after an earlier part
 module _ {X : Type 0} (f : X → Version) (done batch more : List X) (m : Records) where
   short_part : (xs ys : List Version) → AllByRecursion (λ (v : Version). IsShort v.values) (xs ++ ys) → AllByRecursion (λ (v : Version). IsShort v.values) xs × AllByRecursion (λ (v : Version). IsShort v.values) ys
   short_part [] ys all = (tt, all)
@@ -92,7 +92,7 @@ none_other : (k v : Version) → same_key k v ≡ true → (vs : List Version) �
 none_other k v same [] apart = refl
 none_other k v same (w ∷ vs) apart = let one = key_same k v w same ∙ apart.0 in rw one (none_other k v same vs apart.1)
 
--- at most one of such versions has a given key
+-- at most one of versions with keys of their own has a given key
 pub one_of_key : (k : Version) (vs : List Version) → HaveOwnKeys vs → length (filter (same_key k) vs) ≤ 1
 one_of_key k [] own = omega arith
 one_of_key k (v ∷ vs) own = go (same_key k v) refl (one_of_key k vs own.1)

@@ -1,4 +1,4 @@
--- The place of a table that is made after the tables of others.
+-- The place of a table that is made after all other tables.
 use Rattle.std.proofs.Common.{◌≡◌, ℕ, zero, suc, ◌+◌, ◌++◌, ◌||◌, ◌&&◌, not, length, List, [], ◌∷◌, cond, codes, Bool, true, false, Some, None, true≢false, inl, inr, refl, sym, ap, ◌∙◌, arith}
 use Rattle.std.specs.Prelude.{Option, is_some, option_and_then, slice_get}
 use Rattle.std.specs.List.{AllByRecursion, list_any, position_from}

@@ -66,7 +66,7 @@ all_mapped P f (x ∷ xs) all = (all.0, all_mapped P f xs all.1)
 
 -- ---- a row of bt_version shows a version
 
--- of which P holds
+-- the row shows a version of which P holds
 abbrev ShowsOne : (Version → Type 0) → Row → Type 0
 ShowsOne P b = (v : Version) × (b ≡ stored v) × P v
 

@@ -1,4 +1,4 @@
--- Why a text of the store fails if the three tables are there.
+-- The reasons why a text of the store fails if the three tables exist.
 use Rattle.std.proofs.Common.{◌≡◌, ◌∙◌, inl, inr, ℕ, List, [], ◌∷◌, true, false, codes, Ok, Err, Result, IfErr, refl, sym, ap, subst, subst₂, append-nil, length, true≢false, arith}
 use Rattle.std.specs.Prelude.{nat_le, Vec}
 use Rattle.std.specs.declared.alloc.Global.{Global}
@@ -31,7 +31,7 @@ use Rattle.version_tables.proofs.Asks.{meta_asks, meta_names, meta_order, meta_p
 use Rattle.version_tables.proofs.Texts.{select_is, select_query}
 use Rattle.version_tables.proofs.Whole.{whole}
 
--- ---- the text is one statement, of so many parameters
+-- ---- the text is one statement, with a number of parameters
 
 abbrev pub IsOne : List ℕ → ℕ → Result Compiled CompileError → Type 0
 IsOne text count (Ok c) = (nat_le (length text) c.tail ≡ true) × (count ≡ length c.names)
@@ -87,7 +87,7 @@ select_never : (params : Row) (selection : Selection) → NeverOverflows params 
 select_never params selection db (inl group) = group
 select_never params selection db (inr some) = none_of _ some
 
--- ---- why it fails
+-- ---- why a text fails
 
 module _ (old new : State) where
   pub by_cause : (TooBig : Type 0) → ¬ TooBig → (e : Error) (cause : StoreError) → e ≡ store_error cause → HasCause old new TooBig cause → HasReason old new e
@@ -117,7 +117,7 @@ module _ (text : List ℕ) (params : Row) (schema : Schema) (one : IsOne text (l
   not_refused e (inr (c, is, inr (inl (other, _)))) = other (subst (IsOne text (length params)) (known (Ok c) is) one).1
   not_refused e (inr (c, is, inr (inr (clock, _)))) = clock (subst IsPlain (known (Ok c) is) plain).1
 
--- and a query
+-- the reasons why a query fails
 module _ (text : List ℕ) (query : Query) (names : List (List ℕ)) (params : Row) (one : (others : Others) → IsOne text (length params) (understood (schema_with others) text))
     (asks : (others : Others) → (command_of (understood (schema_with others) text) ≡ Select (record { lets = []; body = query }) names) × (reads_listing (schema_with others) text ≡ false) × IsPlain (understood (schema_with others) text))
     (typed : (others : Others) → accepts_program (schema_with others) [] query params ≡ true) (never : NeverOverflows params query) (old new : State) (has : HasStoreTables old.now.schema) where

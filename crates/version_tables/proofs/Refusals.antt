@@ -38,7 +38,7 @@ use Rattle.version_tables.specs.Tables.{IsApart, Others, schema_with}
 use Rattle.version_tables.proofs.Apart.{no_works}
 use Rattle.version_tables.proofs.Reasons.{IsOne, NeverOverflows, by_failure, known, not_refused}
 
--- ---- a command that changes the database is run where it stands
+-- ---- a command that changes the database is run in its place
 
 abbrev pub IsChange : Command → Type 0
 IsChange (Insert at from) = Unit {0}
@@ -69,7 +69,7 @@ stays_inside s k on (inr (name, inr is, _)) = subst IsChange is on
 
 module _ (text : List ℕ) (params : Row) (command : Command) (schema : Schema) (one : IsOne text (length params) (understood schema text)) (is : (command_of (understood schema text) ≡ command) × IsPlain (understood schema text)) (on : IsChange command)
     (old new : State) (has : old.now.schema ≡ schema) where
-  -- without a limit on steps it is not refused, and what it writes can be stored
+  -- a command without a limit on steps is not refused, and what it writes can be stored
   abbrev pub IsAllowed : Type 0
   IsAllowed = (stop : Option Error) → Does None (mode_of old) params (record old.now { schema = schema }) (statement_of text (understood schema text)) None command (Err stop) → ⊥
 

@@ -29,7 +29,7 @@ abbrev IsCreate : Statement → Type 0
 IsCreate (written.CreateTable def) = def.if_missing ≡ false
 IsCreate _ = ⊥
 
--- the text is one CREATE TABLE without IF NOT EXISTS, and nothing beside
+-- the text is one CREATE TABLE without IF NOT EXISTS, and nothing else
 abbrev CreatesOne : List ℕ → Checked Parsed → Type 0
 CreatesOne text (Ok p) = IsCreate p.statement × (slice_range text p.start p.end ≡ text)
 CreatesOne text (Err e) = Unit {0}

@@ -1,5 +1,5 @@
--- UPDATE of versions, whatever columns it sets: of those of which its tests are true, and
--- of those with a key.
+-- UPDATE of versions, whatever columns it sets: of the versions of which its tests are true, and
+-- of the versions with a key.
 use Rattle.std.proofs.Common.{◌≡◌, ◌<◌, inl, inr, ℕ, pos, List, [], ◌∷◌, ◌++◌, map, drop, filter, length, Bool, true, false, not, ◌≤◌, None, Ok, Err, refl, sym, ap, subst, subst₂, ◌∙◌, arith}
 use Rattle.std.specs.Prelude.{unwrap_or}
 use Rattle.std.specs.List.{list_all, AllByRecursion}
@@ -63,7 +63,7 @@ use Rattle.version_tables.proofs.Shows.{chosen}
 use Rattle.version_tables.proofs.Goes.{rid, taken_out, untied-put_row}
 use Rattle.version_tables.proofs.Removes.{has_key, has_key-stored}
 
--- the key, and the parameters behind it
+-- the key, and the parameters after it
 abbrev pub key_and : Version → Row → Row
 key_and k more = Int (pos k.table) ∷ Blob k.values ∷ Int k.start ∷ Int k.from ∷ more
 
@@ -177,7 +177,7 @@ module _ (tests columns : List Term) (params : Row) (test : Row → Bool) (test_
         (filter-map is_spared version_shown olds ∙ ap (map version_shown) (sym left))
         (IsPermutation-filter is_spared _ _ was.says.versions)
 
-    -- once it is put back where its rowids are free
+    -- the versions after the changed rows are put back at free rowids
     pub put_shows : are_fresh (without_all olds (ids_of found)) (map again found) ≡ true → IsPermutation (map stored (map f (filter picks m.versions) ++ filter (λ v. not (picks v)) m.versions)) (map version_shown (put_all (without_all olds (ids_of found)) (map again found)))
     put_shows fresh =
         IsPermutation-trans _ _ _ (subst₂ IsPermutation (sym (map-append stored _ _)) (sym (map-append version_shown _ _)) (IsPermutation-append _ _ _ _ gone rest)) (IsPermutation-map version_shown _ _ (put_fresh (map again found) _ fresh))
@@ -244,7 +244,7 @@ module _ (text : List ℕ) (columns : List Term) (k : Version) (more : Row) (f :
       changes text by_key columns (key_and k more) (same_key k) (has_key k) (λ _. Unit {0}) f body is (has_key-row k more) (has_key-stored k) body_is (λ v _. body-stored v)
       old new count m (everywhere (λ _. Unit {0}) (λ _. tt) m.versions) was h
 
--- ---- keys of versions that are changed beside their keys
+-- ---- keys of versions of which other columns are changed
 
 mapped_apart : (f : Version → Version) → ((a b : Version) → same_key (f a) b ≡ same_key a b) → (x : Version) (xs ys : List Version) → AllByRecursion (λ w. same_key x w ≡ false) (xs ++ ys) → AllByRecursion (λ w. same_key (f x) w ≡ false) (map f xs ++ ys)
 mapped_apart f same x [] ys apart = all_weaker (λ w. same_key x w ≡ false) (λ w. same_key (f x) w ≡ false) (λ w other. same x w ∙ other) ys apart

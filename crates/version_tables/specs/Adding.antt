@@ -23,7 +23,7 @@ abbrev pub numbered_cells : ℤ → List NewRow → Row
 numbered_cells first [] = []
 numbered_cells first (row ∷ rows) = Int first ∷ cells row ++ numbered_cells (first +ℤ pos 1) rows
 
--- the parameters of a statement that numbers its rows so
+-- the parameters of a statement that gives its rows numbers
 abbrev pub given_numbered : ℕ → ℤ → ℤ → ℤ → List NewRow → Row
 given_numbered table from to first rows =
     Int (pos table) ∷ Int from ∷ Int to ∷ numbered_cells first rows

@@ -30,7 +30,7 @@ AreFirst db table selection given =
     (records : Records) → Represents db records
     → (more : List Row) × AreShown records table selection (given ++ more)
 
--- all of such rows
+-- the rows are all that the query shows of a table
 abbrev pub AreAll : Database → ℕ → Selection → List Row → Type 0
 AreAll db table selection given =
     (records : Records) → Represents db records → AreShown records table selection given
@@ -49,7 +49,7 @@ pub record HasNotBegun {S X : Type 0} (g : Ghosts S) (first : Held S) (result : 
   pub left : IsAfterQuery g first now
   pub why : FailsWithReason g first now result
 
--- the query goes on, and has given these rows since it began outside a transaction
+-- the query is not at its end, and has given these rows since it began outside a transaction
 pub record HasGivenRows {S : Type 0} (g : Ghosts S) (table : ℕ) (selection : Selection)
     (first now : Held S) (given : List Row) : Type 0 where
   pub rows : HasCleanDisk (state g now) → AreFirst (state g first).now table selection given

@@ -11,11 +11,11 @@ use Rattle.sqlite.specs.Tree.{IsAscending, IsTable, rowid}
 use Rattle.sqlite_schema.specs.declared.schema.Index.{Index}
 use Rattle.version_tables.specs.Represents.{Records, Version, same_key}
 
--- others have laid no index over one of the three tables
+-- no index but the store's own is over one of the three tables
 abbrev pub HasNoIndexOfOthers : Schema → Type 0
 HasNoIndexOfOthers schema = AllByRecursion (λ (i : Index). 4 ≤ i.table) (drop 1 schema.indexes)
 
--- the rows stand in the order of their rowids, which are integers of 64 bits, and so many of these
+-- the rows are in the order of their rowids, which are integers of 64 bits, and so many integers
 -- follow the last
 pub record HaveRoomFor (count : ℕ) (rows : List Row) : Type 0 where
   pub rise : IsTable rows
@@ -30,8 +30,8 @@ pub record IsHealthy (count : ℕ) (db : Database) : Type 0 where
   pub bare : HasNoIndexOfOthers db.schema
   pub room : HaveRoomFor count (db.trees 2)
 
--- a row with these bytes beside numbers is within the 10^9 bytes of a row, of which each of up to
--- seven columns takes up to 18 beside its own
+-- a row with these bytes and numbers is within the 10^9 bytes of a row, of which each of up to
+-- seven columns takes up to 18, not counting its own bytes
 abbrev pub IsShort : List ℕ → Type 0
 IsShort bytes = 7 * 18 + length bytes ≤ 10 ^ 9
 

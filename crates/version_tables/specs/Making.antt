@@ -71,8 +71,8 @@ HasThree old =
     IsMadeOf old (with_store_tables old.schema)
     (meta_tree old.schema ∷ definition_tree old.schema ∷ version_tree old.schema ∷ [])
 
--- the three are there, after the tables of others, with the form and the clock and no other row;
--- the tables of others have the rows that they had
+-- the three exist, after all other tables, with the form and the clock and no other row;
+-- the other tables have the rows that they had
 pub record IsBegunIn (form clock : ℤ) (old db : Database) : Type 0 where
   pub schema_is : db.schema ≡ with_store_tables old.schema
   pub others : KeepsRows old.schema.tables old.trees db.trees

@@ -5,13 +5,13 @@ use Rattle.std.specs.List.{list_all, list_any}
 use Rattle.sqlite.specs.Schema.{Schema}
 use Rattle.sqlite_schema.specs.Names.{column_named, same_name, table_named}
 
--- none of them
+-- the schema has none of the three tables
 pub record HasNoStoreTable (s : Schema) : Type 0 where
   pub meta : table_named s (codes "bt_meta") ≡ None
   pub table : table_named s (codes "bt_table") ≡ None
   pub version : table_named s (codes "bt_version") ≡ None
 
--- all of them
+-- the schema has all of the three tables
 pub record HasEachStoreTable (s : Schema) : Type 0 where
   pub meta : IsSome (table_named s (codes "bt_meta"))
   pub table : IsSome (table_named s (codes "bt_table"))
@@ -32,7 +32,7 @@ abbrev pub version_columns : List (List ℕ)
 version_columns =
     codes "tab" ∷ codes "vals" ∷ codes "s" ∷ codes "e" ∷ codes "ss" ∷ codes "se" ∷ []
 
--- whether a table of the name is there and has the column
+-- whether a table with the name exists and has the column
 abbrev pub has_column : Schema → List ℕ → List ℕ → Bool
 has_column s name column =
     list_any (λ t. same_name t.name name && is_some (column_named t column)) s.tables

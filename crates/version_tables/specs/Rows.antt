@@ -22,7 +22,7 @@ abbrev pub InOrder : (Row → Row) → (Row → Row → Ordering) → List Row �
 InOrder show cmp tree rows =
     (to : List Row) × IsPermutation tree to × (rows ≡ map show to) × IsSorted cmp to
 
--- by the rowid, which is a row's first value
+-- the order by the rowid, which is a row's first value
 abbrev pub by_rowid : Row → Row → Ordering
 by_rowid a b = value_cmp (rowid a) (rowid b)
 
@@ -51,7 +51,7 @@ AreRising rows =
 abbrev pub ShareNumber : Row → Row → ℕ → Type 0
 ShareNumber a b at = (n : ℤ) × IsNumberAt a at n × IsNumberAt b at n
 
--- both have the same bytes there
+-- both rows have the same bytes at the place
 abbrev pub ShareBytes : Row → Row → ℕ → Type 0
 ShareBytes a b at = (bytes : List ℕ) × AreBytesAt a at bytes × AreBytesAt b at bytes
 

@@ -67,12 +67,12 @@ form_text = codes "UPDATE bt_meta SET form = ?1, clock = ?2"
 -- Versions are added by one, two, four, eight or thirty-two in a statement. ?1 is their table, ?2
 -- and ?3 are the ends of their system time, and each of them has three more parameters.
 
--- one version is added
+-- the text that adds one version
 abbrev pub one_text : List ℕ
 one_text =
     codes "INSERT INTO bt_version (tab, vals, s, e, ss, se) VALUES (?1, ?4, ?5, ?6, ?2, ?3)"
 
--- one more row, whose own parameters are the next three
+-- the text for one more row, whose own parameters are the next three
 abbrev next_row : List ℕ
 next_row = codes ", (?1, ?, ?, ?, ?2, ?3)"
 

@@ -94,7 +94,7 @@ pub fn move_ends<S: Alter>(
 }
 
 /// Adds the bytes of a definition under this number. The contract says what that makes if the
-/// number follows those of the others.
+/// number follows the earlier ones' numbers.
 pub fn insert_definition<S: Alter>(
     transaction: &mut Transaction<'_, S>,
     id: u32,

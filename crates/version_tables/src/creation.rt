@@ -80,7 +80,7 @@ fn insert_meta<S: Alter>(
     )
 }
 
-/// Adds the three tables after all tables of others, and the row of the form and the clock.
+/// Adds the three tables after all other tables, and the row of the form and the clock.
 fn make_tables<S: Alter>(
     transaction: &mut Transaction<'_, S>,
     form: i64,
@@ -101,7 +101,7 @@ fn make_tables<S: Alter>(
 }
 
 /// Makes the three tables, with this form and this clock (a moment's number), in one transaction.
-/// What others have in the database stays: the three are added after their tables. On `Err` nothing
+/// The other tables of the database stay: the three are added after them. On `Err` nothing
 /// is changed, and no transaction is open. In a database without tables it is refused for nothing
 /// but memory and faults.
 pub fn create<S: Alter>(connection: &mut Connection<S>, form: i64, clock: i64) -> Result<(), Error>

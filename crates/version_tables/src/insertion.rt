@@ -1,5 +1,5 @@
 //! Rows are added by several in one statement: a row of thirty-two costs the database about half of
-//! what a row with a statement of its own does in a file, and three quarters in memory. Behind the
+//! what a row with a statement of its own does in a file, and three quarters in memory. After the
 //! first of a call, thirty-two get numbers that follow the last one, for which the database has not
 //! to look.
 
@@ -228,7 +228,7 @@ fn first_number(last: Option<i64>, rows: usize) -> Option<i64>
     Some(last + 1)
 }
 
-/// Adds the next rows in one statement: behind a row that the database has numbered, with numbers
+/// Adds the next rows in one statement: after a row that the database has numbered, with numbers
 /// that it need not look for.
 fn insert_next<S: Alter>(
     alloc: Global,

@@ -1,5 +1,5 @@
 //! The three tables that a database has, and whether they have their columns. Other tables
-//! beside them don't matter.
+//! don't matter.
 
 ghost use Rattle.std.specs.Prelude.{◌≡◌, ◌↔◌, ◌&&◌, codes, is_some};
 ghost use Rattle.sqlite.specs.Held.{state};
@@ -11,7 +11,7 @@ ghost use Rattle.version_tables.specs.Presence.{have_columns, meta_columns, vers
 use sqlite::{Alter, Connection};
 use sqlite_schema::schema::{Schema, Table};
 
-/// The tables that are there, of the three.
+/// The tables that exist, of the three.
 #[derive(Clone, Copy, Debug, PartialEq, Eq)]
 pub enum Presence {
     /// None of them.
@@ -85,8 +85,8 @@ fn has_version_columns(schema: &Schema) -> bool
         && has_column(schema, b"bt_version", b"se")
 }
 
-/// Whether each of the three tables is there with all its columns, by their names. A column may be
-/// of any kind, and there may be others.
+/// Whether each of the three tables exists with all its columns, by their names. A column may be
+/// of any kind, and there may be more columns.
 pub fn columns_there<S: Alter>(connection: &Connection<S>) -> bool
     ensures { result ≡ have_columns (state S.Store connection.now).now.schema }
 {

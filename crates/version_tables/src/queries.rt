@@ -1,5 +1,5 @@
-//! The queries. Each is run outside a transaction. That of one table gives its rows one at a time,
-//! the others answer all their rows at once.
+//! The queries. Each is run outside a transaction. The query of one table gives its rows in turn,
+//! every other one all its rows at once.
 
 ghost use Rattle.std.specs.Prelude.{◌≡◌, ℕ, List, [], false, map, IfOk, OnErr, OnOk};
 ghost use Rattle.std.specs.Prelude.{IsPermutation};

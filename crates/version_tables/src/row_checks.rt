@@ -40,7 +40,7 @@ fn clock_in(row: &Row) -> Option<(Form, i64)>
     }
 }
 
-/// The form and the clock, a moment's number in its unit, if the rows are those of a good bt_meta:
+/// The form and the clock, a moment's number in its unit, if the rows are a good bt_meta's:
 /// one row, whose number is 1, whose form is 1 or 2 and whose clock is before the open end.
 pub fn clock_of(rows: &[Row]) -> Option<(Form, i64)>
     ensures { MatchOption result ((form : AnyForm) (clock : ℤ) → ¬ AreMetaRows rows.now form clock)

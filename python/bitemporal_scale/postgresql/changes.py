@@ -100,7 +100,7 @@ def raised(code: int) -> str:
 
 
 def key_check(table: Table) -> str:
-    """The first day on which a current row begins before all those of its key before it have
+    """The first day on which a current row begins before all earlier ones of its key have
     ended."""
     keys = ', '.join(name_sql(name) for name in table.key)
     period, (_, until) = period_sql(table, 't'), system_sql(table, 't')

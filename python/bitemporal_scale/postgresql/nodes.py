@@ -107,7 +107,7 @@ def server_name(node: int) -> str:
 
 
 def partitioned_sql(table: Table, names: list[str], nodes: int, schema: str) -> Iterator[str]:
-    """A table whose parts are on nodes, by a hash of these columns."""
+    """A table whose parts are on nodes, by a hash of the columns."""
     lines = ',\n  '.join(column_lines(table))
     by = ', '.join(map(name_sql, names))
     yield f'CREATE TABLE {name_sql(table.name)} (\n  {lines})\n  PARTITION BY HASH ({by});\n'

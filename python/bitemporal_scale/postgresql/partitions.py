@@ -1,4 +1,4 @@
-"""Which sequenced queries can be answered node by node, if tables are kept in parts.
+"""Which sequenced queries can be answered node by node, if tables are in parts.
 
 Each table is on every node as a whole, or in parts: then a row is on the node that its columns of
 distribution choose, by one function of their values for all tables. A query splits if the
@@ -32,7 +32,7 @@ Places = Optional[frozenset[tuple[int, ...]]]
 
 
 class Crossing(Exception):
-    """Why a node would need the rows of others."""
+    """Why a node would need other nodes' rows."""
 
 
 def verdict(query: Query, catalog: Catalog, columns: dict[str, list[str]]) -> str:

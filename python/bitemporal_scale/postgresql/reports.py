@@ -19,7 +19,7 @@ def said(text: str) -> str:
 
 
 def records_sql(heads: tuple[str, str], lines: str) -> str:
-    """Prints the two records of `heads`, with the number of rows in the first, and those of
+    """Prints the two records of `heads`, with the number of rows in the first, and the records of
     `lines`, a SELECT of i, which orders them, and line."""
     first, names = heads
     return (f'WITH records AS MATERIALIZED (\n{indented(lines)})\n'

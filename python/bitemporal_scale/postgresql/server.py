@@ -22,11 +22,11 @@ SETTINGS = ('-c listen_addresses= -c fsync=off -c full_page_writes=off -c jit=of
 
 
 class ServerFault(Exception):
-    """A server or psql is missing, or did not do what it was told."""
+    """A server or psql is missing, or did not do what it was asked for."""
 
 
 def programs() -> Optional[pathlib.Path]:
-    """The folder of the newest PostgreSQL of Debian that is here, or that of initdb on the path."""
+    """The folder of the newest PostgreSQL of Debian that is here, or of initdb on the path."""
     folders = [folder for folder in glob.glob('/usr/lib/postgresql/*/bin')
                if os.access(os.path.join(folder, 'initdb'), os.X_OK)]
     if folders:
@@ -65,7 +65,7 @@ class PrivateServer:
         self.connection = ''
 
     def __enter__(self) -> PrivateServer:
-        # So that a process that is told to end stops its servers first.
+        # So that a process that is asked to end stops its servers first.
         signal.signal(signal.SIGTERM, lambda *_: sys.exit(128 + signal.SIGTERM))
         try:
             self.start()

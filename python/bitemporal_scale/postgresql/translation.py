@@ -73,7 +73,7 @@ def statement_sql(statement: Statement, catalog: Catalog, options: Options) -> s
 
 
 def bare_sql(statement: Statement, catalog: Catalog, options: Options) -> str:
-    """A table or a query alone; of a refused statement, and of others, nothing."""
+    """A table or a query alone; of a refused or another statement, nothing."""
     tree = statement.tree
     if statement.faults:
         return ''

@@ -17,7 +17,7 @@ class NotTranslated(Exception):
 
 
 def name_sql(name: str) -> str:
-    """A name of the script, or one of ours; those of ours have a `#`, which no script's name
+    """A name of the script, or one of ours; ours have a `#`, which no script's name
     has."""
     name = name.lower()
     if name in SYSTEM_COLUMNS:

@@ -5,7 +5,7 @@
     borders     the days on which slices end, so that each is small enough for a run
     slice_file  the script of a slice in a file, from which a statement can be taken out
     workers     slices as runs of the program: here, or on the workers of a Dask cluster
-    elsewhere   slices that are run by others: what is kept beside them until they are joined
+    elsewhere   slices that are run elsewhere: the file with them until they are joined
     task        what a worker of a Dask cluster runs
     outcomes    the report of a slice in its file: what became of each statement, where its rows are
     rounds      runs until all slices agree which statements are refused

@@ -1,6 +1,6 @@
 """The rows of CSV files, one after the other, so that a file need not fit into memory.
 
-The first line names the columns; those of the table have to be there, others are left out. A day is
+The first line names the columns; it has to name the table's, and may name more. A day is
 written YYYY-MM-DD, and an empty end is 9999-12-31. Python's csv module reads the files.
 """
 import csv
@@ -49,7 +49,7 @@ def date_literal(cell: str) -> str:
 
 
 class BadLines(Exception):
-    """Lines of a file that are no rows of its table, told one a line."""
+    """Lines of a file that are no rows of its table, printed one a line."""
 
 
 class CsvRows:

@@ -1,6 +1,6 @@
-"""Slices that are run by others: cut into a folder, and joined once their reports exist.
+"""Slices that are run elsewhere: cut into a folder, and joined once their reports exist.
 
-Beside the slices the folder has slices.json: the sum of the script, and of each slice its days and
+With the slices the folder has slices.json: the sum of the script, and of each slice its days and
 where its statements are, so that neither the script nor loaded files are cut again.
 """
 import datetime
@@ -19,7 +19,7 @@ class BadFolder(Exception):
 
 
 class Waiting(Exception):
-    """Slices that others have to run, for the first time or once more: `slices`."""
+    """Slices to run elsewhere, for the first time or once more: `slices`."""
 
     def __init__(self, slices: list[SliceFile]) -> None:
         super().__init__()
@@ -74,8 +74,8 @@ def read(folder: pathlib.Path, script: bytes) -> list[SliceFile]:
 
 
 class Elsewhere:
-    """The runs of others. The reports exist at first; if slices have to be run again, what
-    is kept of them is written, and their reports go."""
+    """The runs elsewhere. The reports exist at first; if slices have to be run again, what
+    stays of them is written, and their reports are removed."""
 
     def __init__(self, folder: pathlib.Path, script: bytes, slices: list[SliceFile]) -> None:
         self.folder, self.script, self.slices = folder, script, slices

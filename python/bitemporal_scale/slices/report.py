@@ -76,7 +76,7 @@ class Report:
 
 def rows_of(statement: Cut) -> Union[int, str]:
     """The number of rows in a done record. A row that an UPDATE or a DELETE touches is cut into
-    those of several slices, so their numbers are not known."""
+    the rows of several slices, so their numbers are not known."""
     if isinstance(statement.tree, Insert):
         return len(statement.tree.rows)
     return '' if isinstance(statement.tree, (Update, Delete)) else 0

@@ -1,9 +1,9 @@
 """Runs until all slices agree which statements are refused.
 
 A statement that breaks a key or a reference on some day (42, 43) is refused in the slice of that
-day, and the others know nothing of it. It changes nothing in any slice then. So after the first
+day, and no other slice knows of it. It changes nothing in any slice then. So after the first
 statement that one slice refuses and another does not, the reports of those that did it are wrong:
-it is taken out of these, and they are run again.
+it is taken out of those slices, which are run again.
 """
 from collections.abc import Callable
 from typing import Optional
@@ -51,7 +51,7 @@ def check_loaded(part: SliceFile) -> None:
 
 def first_divided(slices: list[SliceFile], numbers: list[int],
                   refused: dict[int, list[str]]) -> Optional[int]:
-    """The first statement that some slices refuse and others do not. What those refuse that come
+    """The first statement that some slices refuse and some do not. What those refuse that come
     before it, or that all refuse, is added to `refused`."""
     for number in numbers:
         found = [part.outcomes[number] for part in slices if number in part.outcomes]

@@ -14,7 +14,7 @@ class Loaded:
 
 
 class Outcome(NamedTuple):
-    """Its kind is done, answer or refused; `fields` are those of its record after the number. Of an
+    """Its kind is done, answer or refused; `fields` are its record's after the number. Of an
     answer `names` are the columns, `place` is where its rows begin in the file, and `audit` has the
     fields of its audit, or is None."""
     kind: str

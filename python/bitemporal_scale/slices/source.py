@@ -128,5 +128,5 @@ class Source:
         return Cut(statement, written)
 
     def stored_queries(self) -> list[int]:
-        """The numbers of the stored queries, which tell of periods as they are kept."""
+        """The numbers of the stored queries, which show periods as they are stored."""
         return [statement.number for statement in self.statements if statement.is_stored]

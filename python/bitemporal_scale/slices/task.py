@@ -9,7 +9,7 @@ import tempfile
 def run(program: bytes, words: list[str], script: bytes) -> tuple[int, bytes, bytes]:
     """Runs the program (its bytes) with these words on a script; its status and what it printed.
 
-    The program is kept in the worker's own folder, for the tasks that follow.
+    The program stays in the worker's own folder, for the tasks that follow.
     """
     folder = worker_folder()
     path = os.path.join(folder, 'bitemporal_' + hashlib.sha256(program).hexdigest())

@@ -38,11 +38,11 @@ class Here:
         judged(part, ran.returncode, ran.stderr)
 
     def close(self) -> None:
-        """Nothing is kept between runs."""
+        """Nothing stays between runs."""
 
 
 class Cluster:
-    """The workers of a Dask cluster. The program goes to each worker once, a slice with its task;
+    """The workers of a Dask cluster. Each worker gets the program once, a slice with its task;
     as many tasks are under way at once as keep each worker busy."""
 
     def __init__(self, scheduler: str, program: str, words: list[str]) -> None:

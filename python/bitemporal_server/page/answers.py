@@ -110,7 +110,7 @@ class Asker:
             return {'days': sorted(days), 'moments': sorted(moments)}
 
     def state(self, name: str, moment: Optional[str], day: Optional[str]) -> Answer:
-        """The rows of a table as they were recorded at a moment, those of a day alone if one is
+        """The rows of a table as they were recorded at a moment, a day's alone if one is
         given."""
         with self.lock:
             table = self.engine.catalog.tables[name]

@@ -33,7 +33,7 @@ def value_column(table: Table, name: str) -> Column:
 
 @dataclasses.dataclass(frozen=True)
 class AddColumn:
-    """A value column after the others, with one value in all versions."""
+    """A value column at the end, with one value in all versions."""
     table: str
     column: Column
     value: Value

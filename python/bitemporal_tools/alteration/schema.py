@@ -74,7 +74,7 @@ class Schema:
                 change(table, reference) for reference in table.references))
 
     def tables(self) -> list[Altered]:
-        """The tables in an order in which each follows its parents: that of the store, as far
+        """The tables in an order in which each follows its parents: the store's order, as far
         as it is one."""
         left, found = list(self.altered.values()), list[Altered]()
         while left:
@@ -101,7 +101,7 @@ def converted(altered: Altered, versions: Iterator[Version]) -> Iterator[Version
 
 
 def checked_name(name: str) -> str:
-    """A name in upper case, which may be that of a table, a column or a period."""
+    """A name in upper case, which may name a table, a column or a period."""
     upper = name.upper()
     plain = upper.replace('_', 'A')
     if not (plain.isascii() and plain.isalnum() and not plain[:1].isdigit()):

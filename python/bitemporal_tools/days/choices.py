@@ -31,7 +31,7 @@ class Condition:
                 if all(row.values[place] == value for place, value in self.wanted))
 
     def days(self, columns: str) -> DaysOf:
-        """The days of each list of values of these columns."""
+        """The days of each list of values of the columns."""
         places = self.table.places(columns)
         found: DaysOf = {}
         for row in self.rows():

@@ -1,4 +1,4 @@
-"""An answer that was written as CSV, as tools/answers and the tools beside it write it."""
+"""An answer that was written as CSV, as tools/answers and tools like it write it."""
 import os
 
 from bitemporal_tools.command_line import Fault

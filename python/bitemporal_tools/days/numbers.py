@@ -1,4 +1,4 @@
-"""Days as numbers: those of datetime.date.toordinal."""
+"""Days as numbers, as datetime.date.toordinal gives them."""
 import datetime
 
 FIRST, LAST = datetime.date.min.toordinal(), datetime.date.max.toordinal()

@@ -18,7 +18,7 @@ class Window(NamedTuple):
 
 
 def first_of(month: int) -> int:
-    """The first day of a month, which is counted from that of the year 0 on."""
+    """The first day of a month, which is counted from the first of the year 0 on."""
     if month >= 12 * 10_000:
         return LAST
     return datetime.date(month // 12, month % 12 + 1, 1).toordinal()
@@ -54,7 +54,7 @@ def one_window(text: str) -> Period:
 
 
 def window(text: str) -> Window:
-    """One of these, or FIRST..LAST of two of them."""
+    """One such text, or FIRST..LAST of two of them."""
     first, _, last = text.partition('..')
     try:
         start, end = one_window(first)[0], one_window(last or first)[1]

@@ -2,7 +2,7 @@
 
     texts         sentences for a terminal: shortened, wrapped
     causes        of each number what is to do, and of some the cause
-    report        the refusals of a report, and whether they are those of its script
+    report        the refusals of a report, and whether they belong to its script
     bad_tokens    where a whole script is refused: the place, the text, the mend
     slips         common slips in statements without the right syntax, as patterns
     rewriting     the mends of slips that a template doesn't write

@@ -59,7 +59,7 @@ class Mending:
         return self.parsed.stop or 0
 
     def where(self) -> Advice:
-        """What is expected at the stop, and what is there."""
+        """What is expected at the stop, and what follows it."""
         before = f'after {shown(self.tokens[self.stop - 1].text)} ' if self.stop else ''
         found = shown(self.tokens[self.stop].text) if self.stop < len(self.tokens) else \
             'the end of the statement'
@@ -84,7 +84,7 @@ class Mending:
             self.parsed = parsed(self.tokens)
 
     def with_edit(self, edit: Edit) -> tuple[list[Token], list[int]]:
-        """The tokens with an edit, and their offsets. New tokens are far from all others."""
+        """The tokens with an edit, and their offsets. New tokens are far from all old ones."""
         if edit.put == CUT:
             return self.tokens[:edit.start], self.offsets[:edit.start + 1]
         new = [token._replace(offset=token.offset + self.rounds * 10 ** 8)
@@ -169,7 +169,7 @@ class Mending:
         return first - (first > self.stop), last - (last > self.stop)
 
     def period(self) -> str:
-        """The period that the statement declares, or that of its first table, or EP."""
+        """The period that the statement declares, or the one of its first table, or EP."""
         for one, two, name in zip(self.tokens, self.tokens[1:], self.tokens[2:]):
             if (one.word, two.word) == ('PERIOD', 'FOR') and name.is_name:
                 return name.text
@@ -231,7 +231,7 @@ class Mending:
 
 
 def is_change(tokens: list[Token]) -> bool:
-    """Whether these are of a statement that takes rows out or makes others of them."""
+    """Whether the tokens are of a statement that takes rows out or changes them."""
     return tokens[0].word in CHANGES
 
 

@@ -9,7 +9,7 @@ slip is shown only if the statement with the mend continues past it; `expects` i
 that could be there.
 
 No mend of an UPDATE or a DELETE may change more than its words ask. So these have slips of their
-own, CHANGES, and of the others those alone whose mends ask the same.
+own, CHANGES, and of the rest only those whose mends ask the same.
 """
 import re
 from collections.abc import Callable

@@ -17,7 +17,7 @@ DAY = datetime.timedelta(1)
 
 
 class Clashes:
-    """Reports rows of one key that share a day, and how lines that correct others are loaded."""
+    """Reports rows of one key that share a day, and how lines that correct lines are loaded."""
 
     def __init__(self, file: CsvFile, wanted: argparse.Namespace) -> None:
         # `are_some`: among the lines of one moment.
@@ -60,7 +60,7 @@ def ends_a_day_early(rows: Iterable[DaysOfKey]) -> int:
 
 
 def grouped(rows: FactColumns, names: Iterable[str]) -> GroupedRows:
-    """Rows by the columns of these names."""
+    """Rows by columns, given as names."""
     return GroupedRows({name: rows.cells[name] for name in names},
                        zip(rows.starts, rows.ends), rows.keys(), rows.lines)
 

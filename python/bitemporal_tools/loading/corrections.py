@@ -1,7 +1,7 @@
 """Facts in the order of their recording, to changes of portions.
 
 A fact says of a key which values it has on the days of a period, from a moment on. Facts are taken
-moment by moment: a model gives what those of one moment say, for each key in facts that are sorted
+moment by moment: a model gives what one moment's say, for each key in facts that are sorted
 and apart (Portions or Records); and what they say is compared with what the table has (TableDays),
 so that only the days on which it differs are changed: DELETE of days of which nothing is said any
 more, UPDATE of days with other values, INSERT of days that are new. So after each moment the table
@@ -40,7 +40,7 @@ class Fact(NamedTuple):
 
 
 class Change(NamedTuple):
-    """`kind` is delete or update. `places` are those of the values that an update sets."""
+    """`kind` is delete or update. `places` are the places of the values that an update sets."""
     kind: str
     key: Values
     start: datetime.date
@@ -83,7 +83,7 @@ def overlaps(facts: Iterable[Fact]) -> Iterator[tuple[Fact, Fact]]:
 
 def override(facts: list[Fact], new: Fact, is_kept: bool = True) -> tuple[list[Fact], list[Fact]]:
     """Takes the days of a new fact from facts that are sorted and apart, and adds it if it is to be
-    kept. Gives the facts that go, and those in their place."""
+    stored. Gives the facts that are removed, and those in their place."""
     if not facts or facts[-1].end <= new.start:
         facts += [new] * is_kept
         return [], [new] * is_kept
@@ -132,7 +132,7 @@ class TableDays:
 
 
 class Portions:
-    """Each fact says something of its own days, and nothing of others."""
+    """Each fact says something of its own days, and nothing of other days."""
 
     def said(self, facts: Iterable[Fact], clash: Clash) -> Said:
         """The sayings of facts of one moment. Facts that share days are reported to `clash`."""

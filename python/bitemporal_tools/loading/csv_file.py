@@ -1,4 +1,4 @@
-"""A CSV file as others write them, read with the line of each record, and lines that are bad.
+"""A CSV file as programs write them, read with the line of each record, and lines that are bad.
 
 The first line has the names of the columns. Fields may be in quotes, and lines may end as on any
 system. Empty lines are left out.

@@ -161,7 +161,7 @@ class Guess:
         return []
 
     def ends_are_inclusive(self) -> bool:
-        """Whether ends look like the last days of rows: by the rows of each key; else by those of
+        """Whether ends look like the last days of rows: by the rows of each key; else by rows of
         another group of columns in which rows follow each other, such as the managers of a
         department; else by the first days of months."""
         inclusive, exclusive = self.ends_of_the_key()

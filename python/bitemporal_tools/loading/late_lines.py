@@ -1,7 +1,7 @@
 """Lines that were recorded before the clock of a store, and that it lacks.
 
 A line is recorded by the store if on each of its days the store has had the line's values at some
-moment from that of the line on; a line that takes days away, if the store has had nothing on them.
+moment from the line's on; a line that takes days away, if the store has had nothing on them.
 What was changed later, by other lines or by hand, stays as it is. Lines that later lines of the
 file correct before the clock are not asked for.
 """

@@ -1,6 +1,6 @@
 """The columns of a table among those of a CSV file, and the file's records as facts.
 
-A column of the file goes to the column of its own name, as `name_of` makes it, or to the one that a
+A column of the file becomes the column of its own name, as `name_of` makes it, or to the one that a
 pair HEADER=COLUMN says. Cells are read column by column, and each spelling once.
 """
 from __future__ import annotations
@@ -71,7 +71,7 @@ def pairs(texts: Iterable[str], option: str) -> dict[str, str]:
 
 
 class Mapping:
-    """The way from the records of a file to facts of a table. `options` are those of tools/load."""
+    """The way from the records of a file to facts of a table. `options` are tools/load's."""
 
     def __init__(self, table: Table, file: CsvFile, options: argparse.Namespace) -> None:
         self.table, self.file, self.options = table, file, options
@@ -237,7 +237,7 @@ class Mapping:
 
     def column(self, name: str, place: Optional[int], read: Callable[[str], Read],
                unread: Iterable[int] = ()) -> Sequence[Optional[Read]]:
-        """The value that `read` gives for each cell of a column; None for a bad cell, which is told
+        """The value that `read` gives for each cell of a column; None for a bad cell, as is said
         but on lines that are not read. An empty cell is what --empty says."""
         texts = [''] * len(self.file.lines) if place is None else self.file.columns[place]
         default = self.empty.get(name, '')
@@ -257,7 +257,7 @@ class Mapping:
         return list(map(found.__getitem__, texts))
 
     def values(self, column: Column, removed: Iterable[int]) -> Sequence[Optional[Value]]:
-        """The values of a column of the table. A line that takes days away needs those of the key
+        """The values of a column of the table. A line that takes days away needs the key's
         alone."""
         scale, decimal = self.scales.get(column.name, 0), self.options.decimal
         place = self.places[column.name]

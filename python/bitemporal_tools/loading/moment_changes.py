@@ -53,7 +53,7 @@ class MomentChanges:
 
     def completed(self, facts: list[Fact], stored: StoredTable) -> Said:
         """The sayings of facts of one moment if they are all that the table is to have: rows of
-        the store beside them go."""
+        the store that are no such facts are removed."""
         self.days = stored.current(None)
         said = self.model.said(facts, self.clash)
         for key, held in self.days.facts.items():

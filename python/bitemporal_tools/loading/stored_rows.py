@@ -57,7 +57,7 @@ class StoredTable:
         return found
 
     def current(self, keys: Optional[Collection[Values]]) -> TableDays:
-        """The rows of these keys as they are now; without keys all rows."""
+        """The rows of some keys as they are now; without keys all rows."""
         found = TableDays()
         for fact, version in self.facts(keys):
             if version.until == spelling.FOREVER:
@@ -67,7 +67,7 @@ class StoredTable:
         return found
 
     def history(self, keys: Collection[Values]) -> dict[Values, list[Recorded]]:
-        """All versions of these keys."""
+        """All versions of some keys."""
         found: dict[Values, list[Recorded]] = {}
         for fact, version in self.facts(keys):
             found.setdefault(fact.key, []).append(
@@ -76,7 +76,7 @@ class StoredTable:
         return found
 
     def facts(self, keys: Optional[Collection[Values]]) -> Iterator[tuple[Fact, Version]]:
-        """The versions of these keys, or of all, as facts."""
+        """The versions of some keys, or of all, as facts."""
         for version in self.versions(keys):
             values = self.values(version.values)
             key = tuple(values[place] for place in self.key_places)
@@ -85,7 +85,7 @@ class StoredTable:
                            self.day(version.start), self.day(version.end)), version
 
     def versions(self, keys: Optional[Collection[Values]]) -> Iterable[Version]:
-        """Versions among which are all of these keys."""
+        """Versions among which are all of some keys."""
         is_first = self.key_places == list(range(len(self.key_places)))
         count = self.store.counts()[self.number - 1]
         if keys is None or not is_first or len(keys) * VERSIONS_OF_A_LOOK_UP > count:

@@ -29,8 +29,8 @@ class Line(NamedTuple):
 
 
 def lines_of(answer: Answer, place: Optional[int] = None) -> list[Line]:
-    """The lines of an answer: of each list of values, or with a place of a column those of each of
-    its lanes."""
+    """The lines of an answer: of each list of values, or with a place of a column each of
+    its lanes' lines."""
     lines: dict[Sequence[str], list[Row]] = {}
     if place is None:
         for row in answer.rows:
@@ -57,7 +57,7 @@ def lane(value: str, rows: Sequence[Row], place: int) -> list[Line]:
 
 
 def others(row: Row, place: int) -> str:
-    """The values of a row but for that of its lane."""
+    """The values of a row but for its lane's."""
     return ', '.join((*row.values[:place], *row.values[place + 1:]))
 
 

@@ -1,4 +1,4 @@
-"""An SVG picture that grows downwards: what is drawn next is put below what is there."""
+"""An SVG picture that grows downwards: what is drawn next is put below what is drawn."""
 import html
 from collections.abc import Hashable, Iterable
 
@@ -60,7 +60,7 @@ class Canvas:
         self.parts.append(f'<circle cx="{x:.1f}" cy="{y:.1f}" r="3.5" class="{kind}"/>')
 
     def arrow(self, x: float, y: float, towards: int) -> None:
-        """A triangle that says that what is drawn goes on: to the right (1) or to the left (-1)."""
+        """A triangle that says that the drawing continues: to the right (1) or to the left (-1)."""
         self.parts.append(f'<path d="M{x:.1f} {y - 6:.1f} l{8 * towards} 6 l{-8 * towards} 6 z"'
                           ' class="open"/>')
 

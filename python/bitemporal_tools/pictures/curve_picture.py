@@ -29,7 +29,7 @@ class Curve(NamedTuple):
 
 
 def curves_of(steps: Sequence[Step], names: Sequence[str]) -> list[Curve]:
-    """The curves of totals of these names: of each total in turn those of all groups."""
+    """The curves of totals with these names: of each total in turn the curves of all groups."""
     groups: dict[Values, list[Step]] = {}
     for step in steps:
         groups.setdefault(step.group, []).append(step)

@@ -22,7 +22,7 @@ def label_of(label: str) -> str:
 
 
 def lane_of(axis: DaysAxis, rows: Sequence[Row]) -> str:
-    """The bars of these rows as a line of letters."""
+    """The bars of some rows as a line of letters."""
     lane = [' '] * (WIDTH + 1)
     for row in rows:
         left = round(axis.place(day_of(row.start)))

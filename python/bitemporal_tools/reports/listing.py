@@ -1,7 +1,7 @@
 """The tables of a store, as `bitemporal_file STORE --tables` lists them.
 
-A report of `bitemporal_file` is of a script whose tables may be those of the store: what reads it
-beside the script needs them.
+A report of `bitemporal_file` is of a script whose tables may be the store's: what reads it
+with the script needs them.
 """
 import re
 from typing import Optional

@@ -22,7 +22,7 @@ def quoted(text: str) -> str:
 
 
 def record(fields: Union[list[str], Iterable[Any]]) -> str:
-    """The line of these texts."""
+    """The line of some texts."""
     return ','.join(quoted(field) if SPECIAL.search(field) else field for field in fields) + '\n'
 
 

@@ -2,7 +2,7 @@
 
 A `Reader` gives the outcome of each statement in turn: Done, Refused, Answer or Versions. `read`
 gives the statements of a script with them: each has its number, its tree (of bitemporal_tools.sql),
-the lines of the comment above it, and its text. A report that isn't that of the script is
+the lines of the comment above it, and its text. A report that isn't the script's is
 NotOfScript.
 """
 import sys
@@ -79,7 +79,7 @@ MOST_SHOWN = 96  # characters of a record
 
 
 class NotOfScript(Exception):
-    """The report is none, or that of another script: why."""
+    """The report is none, or another script's: why."""
 
 
 def read(script_path: str, report_path: Optional[str], catalog: Catalog) -> list[Statement]:

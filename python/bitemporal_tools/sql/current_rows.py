@@ -1,7 +1,7 @@
 """The current rows of each table after some statements, and what clashes there: 42 and 43.
 
 Rows are lists of versions without their past: what a key and a reference are judged by. The rows of
-a table are kept by key, so that a change whose WHERE names a whole key looks at few.
+a table are held by key, so that a change whose WHERE names a whole key looks at few.
 """
 import datetime
 import operator
@@ -55,7 +55,7 @@ class Rows:
 
     def first_clash(self, keys: list[tuple[Value, ...]]) -> Optional[
             tuple[datetime.date, CurrentRow, CurrentRow]]:
-        """The first day on which two rows have one of these keys, with both."""
+        """The first day on which two rows have one of the keys, with both."""
         first = None
         for key in keys:
             rows = sorted(self.of_key(key), key=lambda row: (row.start, row.end))

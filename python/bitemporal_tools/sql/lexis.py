@@ -24,7 +24,7 @@ LEXEME = re.compile(
 
 class Token(NamedTuple):
     """A token: its kind (word, number, text or symbol), how it is written, the offset of its first
-    character, and `word`: a word in upper case or a symbol, and of others an empty text."""
+    character, and `word`: a word in upper case or a symbol, and of another token an empty text."""
     kind: str
     text: str
     offset: int

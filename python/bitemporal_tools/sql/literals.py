@@ -61,7 +61,7 @@ def moment_of(text: str) -> Optional[str]:
 
 
 def number_of(digits: str, sign: int) -> Optional[int]:
-    """The number of these digits with the sign 1 or -1, or None if 64 bits don't hold it."""
+    """The number with these digits with the sign 1 or -1, or None if 64 bits don't hold it."""
     digits = digits.lstrip('0') or '0'
     if len(digits) > len(str(GREATEST_NUMBER)):
         return None

@@ -1,6 +1,6 @@
 """Reads the tokens of one piece from left to right.
 
-Each test of a token is kept: `furthest` is the last place at which one was tested, and `expected`
+Each test of a token is noted: `furthest` is the last place at which one was tested, and `expected`
 what was tested there. Every token before it fits, since a reader only gets past what the grammar
 has. So if a piece is no statement, its token at `furthest` is the first that no statement can
 have there, and each statement that begins alike continues with one of `expected`.
@@ -54,7 +54,7 @@ class Reader:
         return self.offset(self.at - len(words))
 
     def takes_one_of(self, *words: str) -> Optional[str]:
-        """The one of these words that is next, or None."""
+        """The one of the words that is next, or None."""
         return next((word for word in words if self.takes(word)), None)
 
     def needs_one_of(self, *words: str) -> str:

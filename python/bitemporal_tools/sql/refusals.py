@@ -24,7 +24,7 @@ class Fault(NamedTuple):
 
 
 class Refused(Exception):
-    """A refusal of a whole script (1 to 3). That by 3 has the offset of the byte and that of the
+    """A refusal of a whole script (1 to 3). The one by 3 has the offset of the byte and of the
     character at which no token begins; that by 1 the offset of the byte that is no UTF-8."""
 
     def __init__(self, number: int, byte: int = 0, offset: int = 0) -> None:

@@ -73,7 +73,7 @@ def mend_of_type(kind: Optional[str], literal: Literal) -> str:
 
 
 class Scope:
-    """The tables whose columns a name may match: pairs of the name by which each goes and it."""
+    """The tables whose columns a name may match: pairs of the name that each has, and it."""
 
     def __init__(self, tables: list[tuple[Name, Table]]) -> None:
         self.tables = tables

@@ -50,7 +50,7 @@ class Statement:
 
 def judge(text: str, catalog: Optional[Catalog] = None) -> list[Statement]:
     """The statements of a script's text, in turn. Each is judged over the tables and the clock that
-    those before it leave, the first over those of a catalog. `refusals.Refused` if the whole
+    those before it leave, the first over a catalog's. `refusals.Refused` if the whole
     script is refused."""
     catalog, statements = catalog.copy() if catalog else Catalog(), []
     for number, tokens in enumerate(pieces(lexed(text)), 1):

@@ -124,7 +124,7 @@ class Not(NamedTuple):
 
 
 class Comparison(NamedTuple):
-    """Its offset is that of the sign."""
+    """Its offset is the sign's."""
     left: Side
     sign: str
     right: Side
@@ -194,7 +194,7 @@ class On(NamedTuple):
 
 
 class Select(NamedTuple):
-    """`references` are those of all chains in turn; `ons` has the ON of each join."""
+    """`references` are the references of all chains in turn; `ons` has the ON of each join."""
     items: list[Item]
     references: list[TableReference]
     ons: list[On]

@@ -19,7 +19,7 @@ OfOne = tuple[bool, Version]
 
 def difference(first: Iterable[Version], second: Iterable[Version]) -> Iterator[OfOne]:
     """The versions that only one of two lists in their order has, by values, first day and moment,
-    and of those that have these in common the ones of the first list before the others."""
+    and if two have these in common, the one of the first list first."""
     for _, group in itertools.groupby(merged(first, second), lambda found: sort_key(found[1])[:3]):
         yield from sorted(group, key=lambda found: found[0])
 

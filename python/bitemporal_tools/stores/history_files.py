@@ -29,7 +29,7 @@ from bitemporal_tools.stores.tables import (NO_PRECISION, ROW_END, ROW_START, VA
 
 FORM = '1'
 HEAD, TABLES = 'dump.csv', 'tables.sql'
-# A name of a file may be shorter than that of a table.
+# A name of a file may be shorter than the name of a table.
 LONGEST_NAME = 200
 KINDS = {'INTEGER': INTEGER, 'DATE': DATE, 'VARCHAR': VARCHAR}
 

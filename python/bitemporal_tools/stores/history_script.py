@@ -35,7 +35,7 @@ class Portion(NamedTuple):
 
 
 class Plan(NamedTuple):
-    """The changes of a key at a moment: rows deleted before all others and inserted, days that
+    """The changes of a key at a moment: rows deleted before all else and inserted, days that
     become held, values that change, days that go."""
     replaced: list[Portion]
     inserted: list[Version]
@@ -82,7 +82,7 @@ class TwoRows(Exception):
 
 
 def touching_plan(change: KeyChange) -> Plan:
-    """Each row that begins is written, if days of it were held by an UPDATE of these."""
+    """Each row that begins is written, if days of it were held by an UPDATE before."""
     plan, held = Plan([], [], [], []), joined_days(change.ended)
     for segment in segments(change):
         if not segment.after or not segment.before:

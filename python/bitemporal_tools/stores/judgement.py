@@ -97,7 +97,7 @@ class Judgement:
 
 
 def causes(store: Store) -> list[str]:
-    """Why the program refuses a store, as far as asking it for its rows in turn tells."""
+    """Why the program refuses a store, as far as asking it for its rows in turn shows."""
     with asking.scratch(store.size) as folder:
         judgement = Judgement(store, folder)
         for number, table in enumerate(store.tables, 1):

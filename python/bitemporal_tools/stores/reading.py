@@ -26,7 +26,7 @@ except ImportError:  # there are no such locks here
 
 # A reader of sqlite locks so many bytes of a file from this place on.
 SHARED_FIRST, SHARED_SIZE = 0x40000002, 510
-# The head of a log and that of one page in it: a log of fewer bytes has no change.
+# The head of a log and the head of one page in it: a log of fewer bytes has no change.
 LOG_OF_NOTHING = 32 + 24
 FORMS = (1, 2)
 FOREVER_IN_SECONDS = 253402300799

@@ -16,7 +16,7 @@ class KeyChange(NamedTuple):
 
 
 class Segment(NamedTuple):
-    """Days on which the values of a key are others after a moment: those before, and those after.
+    """Days on which the values of a key differ after a moment: those before, and those after.
     More than one at once there are only if the table has a key that its history did not have."""
     start: int
     end: int

@@ -33,7 +33,7 @@ class Column:
 
 @dataclasses.dataclass(frozen=True)
 class Reference:
-    """The columns of a table, and in the same order those of its parent to which they refer."""
+    """The columns of a table, and in the same order the parent's to which they refer."""
     parent: str
     columns: tuple[str, ...]
     parent_columns: tuple[str, ...]
@@ -131,7 +131,7 @@ def table_of(data: bytes, tables: Sequence[Table]) -> Table:
 
 def elements(table: Table, tables: Sequence[Table]) -> list[str]:
     """The elements of the statement: the columns, the periods, the key and the references. The
-    other tables are there for the names of their periods."""
+    other tables are given for the names of their periods."""
     found = [f'{column.name} {column.type}' for column in table.columns]
     system = f'{table.system(ROW_START)}, {table.system(ROW_END)}'
     found.append(f'PERIOD FOR {table.period} ({table.start}, {table.end})')

@@ -147,7 +147,7 @@ def new_store(path: str, like: str = '') -> Iterator[NewStore]:
 
 def make(path: str, like: str, clock: int, tables: Sequence[Table],
          versions: Iterable[Numbered]) -> None:
-    """Makes a store of these contents, if the program opens it."""
+    """Makes a store with these contents, if the program opens it."""
     with new_store(path, like) as store:
         store.write(clock, tables, versions)
         store.judge()

@@ -233,7 +233,7 @@ unfoldable pub references_no_key : List TableDef → CreateTable → Bool
 references_no_key catalog c =
     list_any (λ (x : ReferenceElement). names_no_key catalog x) c.references
 
--- one of these
+-- one of the conditions above holds
 unfoldable pub is_bad_definition : List TableDef → CreateTable → Bool
 is_bad_definition catalog c =
     lacks_one_of_each c

@@ -42,7 +42,7 @@ is_row_end Date = false
 is_row_end (RowStart p) = false
 is_row_end (RowEnd p) = true
 
--- one of each
+-- the table has one column of each system sort
 unfoldable pub has_system_columns : TableDef → Bool
 has_system_columns d =
     (count_by (λ (x : Column). is_row_start x.kind) d.columns == 1)
@@ -94,7 +94,7 @@ refers_to d t r =
     are_value_places d r.own
     && (are_key_places t r.keys && not (have_two_kinds d t r.own r.keys))
 
--- to a table that exists
+-- a reference, by places, to a table that exists
 unfoldable pub is_placed_reference : List TableDef → TableDef → Reference → Bool
 is_placed_reference tables d r =
     passes (λ (t : TableDef). is_first_named tables r.parent t && refers_to d t r)

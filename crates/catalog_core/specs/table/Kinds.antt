@@ -30,7 +30,7 @@ kind_of_type type_name.Date = Date
 kind_of_type (type_name.Varchar n) = Text
 kind_of_type (type_name.Timestamp p) = Moment
 
--- one kind
+-- two kinds are the same
 unfoldable pub same_kind : ValueKind → ValueKind → Bool
 same_kind Integer Integer = true
 same_kind Text Text = true

@@ -63,7 +63,7 @@ is_system Date = false
 is_system (RowStart p) = true
 is_system (RowEnd p) = true
 
--- the column at a place is a DATE column, and its name stands for it
+-- the column at a place is a DATE column, and is found by its name
 unfoldable pub is_date_column : TableDef → ℕ → Bool
 is_date_column t place =
     passes
@@ -83,7 +83,7 @@ unfoldable pub is_value_column : TableDef → ℕ × Column → Bool
 is_value_column t (place, column) =
     not (place == t.period.start) && (not (place == t.period.end) && not (is_system column.kind))
 
--- the value columns in declared order, each with its place: a row has a value for each of these
+-- the value columns in declared order, each with its place: a row has a value for each
 abbrev pub value_columns : TableDef → List (ℕ × Column)
 value_columns t = filter (is_value_column t) (enumerate_from 0 t.columns)
 

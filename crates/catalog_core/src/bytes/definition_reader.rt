@@ -23,7 +23,7 @@ use crate::table::{Column, ColumnKind, PeriodColumns, Reference, TableDef};
 use period_core::{DecodeFault, Items, Value};
 use std::alloc::Global;
 
-/// The precision that a number stands for.
+/// The precision for a number.
 fn precision_of(number: i64) -> Option<Option<u8>>
     ensures { MatchOption result
         ((p : Option ℕ) → is_precision p ≡ true → written_precision p ≡ number → ⊥)

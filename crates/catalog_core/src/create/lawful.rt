@@ -90,7 +90,7 @@ fn are_value_columns(definition: &TableDef, places: &[usize]) -> bool
         .all(|place| is_value_place(definition, *place))
 }
 
-/// Whether each place is among others.
+/// Whether each place is in another list.
 fn are_among(others: &[usize], places: &[usize]) -> bool
     ensures { result ≡ list_all (has_place others.now) places.now }
 {

@@ -276,8 +276,8 @@ fn some_keyed_non_value_column(create: &CreateTable) -> bool
     false
 }
 
-/// Whether a period or system column is in the key or in the columns of a reference. The columns
-/// that these name are there.
+/// Whether a period or system column is in the key or in the columns of a reference, all of
+/// which exist.
 pub fn keys_period_column(catalog: &Catalog, create: &CreateTable) -> bool
     requires { some_match catalog.now.tables create.now Zero ≡ false }
     ensures { result ≡ keys_period_column create.now }

@@ -1,4 +1,4 @@
-//! The number of a statement's periods that each name matches: counted once, so that no test goes
+//! The number of a statement's periods that each name matches: counted once, so that no test reads
 //! over all periods for each of them or for each key.
 
 ghost use Rattle.std.specs.Prelude.{◌≡◌, IfOk};

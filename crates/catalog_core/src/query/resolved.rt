@@ -29,7 +29,7 @@ pub struct QueryReference {
 pub struct Select {
     /// The tables in FROM, in the order of the text.
     pub references: NonEmpty<QueryReference>,
-    /// All of these must hold: the conditions of ON, then that of WHERE, each cut at its outermost
+    /// All must hold: the conditions of ON, then the condition of WHERE, each cut at its outermost
     /// AND.
     pub conjuncts: Items<Cond>,
     /// The select list.

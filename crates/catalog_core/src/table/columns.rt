@@ -1,5 +1,5 @@
-//! The places of a table's columns, and which are DATE columns or value columns: all but those of
-//! its application period and its system columns.
+//! The places of a table's columns, and which are DATE columns or value columns: all columns but
+//! its application period's and its system columns.
 
 ghost use Rattle.std.specs.Prelude.{◌≡◌, ◌&&◌, ◌<◌, IfOk, IfSome, Some, bytes_eq, false};
 ghost use Rattle.std.specs.Prelude.{map, not, true};
@@ -38,7 +38,7 @@ pub fn def_places(alloc: Global, table: &TableDef, names: &[Name]) -> Result<Vec
     places_among(alloc, table.columns.as_slice(), names)
 }
 
-/// Whether the column at a place is a DATE column, and its name stands for it.
+/// Whether the column at a place is a DATE column, and is found by its name.
 #[tactic(auto, unfolding(crate::specs::table::TableWords::is_date_column))]
 pub fn is_date_column(table: &TableDef, place: usize) -> bool
     ensures { result ≡ is_date_column table.now place }
@@ -54,8 +54,8 @@ pub fn is_date_column(table: &TableDef, place: usize) -> bool
 
 impl TableDef {
     /// Whether its application period is over two different DATE columns, each the first of its
-    /// name, as that of each definition is that `define` gives. Of those that `decode_def` gives it
-    /// may be over others.
+    /// name. So is the period of each definition that `define` gives; the period of one that
+    /// `decode_def` gives may be over other columns.
     #[tactic(auto, unfolding(crate::specs::table::TableWords::has_date_period))]
     pub(crate) fn has_date_period(&self) -> bool
         ensures { result ≡ has_date_period self.now }

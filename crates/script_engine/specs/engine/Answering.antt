@@ -22,7 +22,7 @@ use Rattle.history_model.specs.Versions.{row_of}
 use Rattle.version_store.specs.Contents.{Contents, version_in}
 use Rattle.version_store.specs.Scans.{seen_of}
 
--- the rows are those of the versions of the table that the window sees, in any order
+-- the rows are the versions of the table that the window sees, as period rows, in any order
 pub record AreRowsSeen (c : Contents) (table : ℕ) (window : Window) (rows : List PeriodRow) : Type 0
   where
     pub versions : List VersionRow
@@ -49,7 +49,7 @@ pub record SeesRows (history : History) (reference : QueryReference) (rows : Lis
 abbrev pub EachSees : History → List QueryReference → List (List PeriodRow) → Type 0
 EachSees history = AllZip (SeesRows history)
 
--- the select list that names the columns of a query's answer: that of its leftmost select
+-- the select list that names the columns of a query's answer: its leftmost select has it
 abbrev pub columns_of : Query → List AnswerColumn
 columns_of (one select) = select.items
 columns_of (both operator left right) = columns_of left

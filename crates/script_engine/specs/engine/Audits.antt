@@ -48,7 +48,7 @@ IsAgreement (Agrees days) = ⊤
 IsAgreement (Differs day) = ⊥
 IsAgreement (BadWitness row) = ⊥
 
--- the verdict is that of an audit over the rows that the query's references see; it finds no fault
+-- an audit over the rows that the query's references see gives the verdict; it finds no fault
 pub record Confirms (history : History) (query : Query) (answer : Answer) (verdict : Verdict)
     : Type 0 where
   pub tables : List (List PeriodRow)
@@ -92,7 +92,7 @@ AuditsAgree =
     → (tables : List (List PeriodRow)) → AreSeen history query tables
     → IsVerdictOver query tables answer verdict → IsAgreement verdict
 
--- the number of days that an audit of an answer gives is one: that of the change days of the answer
+-- audits of an answer give one number of days, the number of the change days of the answer
 -- and of the rows that the query's references see. This too is the contract of a function.
 abbrev pub AuditsCountOnce : Type 0
 AuditsCountOnce =

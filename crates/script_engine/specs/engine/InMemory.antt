@@ -50,14 +50,14 @@ pub record HaveCurrentRows (c : Contents) (tables : List RowsByKey) : Type 0 whe
   pub keys : keys_in tables ≡ map key_positions c.tables
   pub rows : (number : ℕ) → AreCurrentOf c number (rows_in tables number)
 
--- the rows of a table became these, in any order, and no others changed
+-- the rows of a table became these, in any order, and no other table changed
 pub record HaveRows (number : ℕ) (wanted : List VersionRow) (old new : List RowsByKey) : Type 0
   where
     pub keys : keys_in new ≡ keys_in old
     pub there : IsPermutation (rows_in new number) wanted
     pub others : (other : ℕ) → (other ≡ number → ⊥) → rows_in new other ≡ rows_in old other
 
--- the tables in memory are those of a catalog, with the indexes that its references need; each
+-- the tables in memory are a catalog's, with the indexes that its references need; each
 -- definition is one that CREATE gives over those before it
 pub record FollowCatalog (catalog : List TableDef) (tables : List TableRows) : Type 0 where
   pub lawful : AreLawful [] catalog

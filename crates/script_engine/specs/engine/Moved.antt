@@ -1,4 +1,4 @@
--- Moves of a store and of a database of the model, both kept in whole seconds, to microseconds:
+-- Moves of a store and of a database of the model, both in whole seconds, to microseconds:
 -- both come to one. The law is the contract of a function of this crate.
 use Rattle.std.specs.Prelude.{◌≡◌, ℕ, map, IsPermutation}
 use Rattle.version_tables.specs.declared.form.Form.TheVariants.{Seconds}

@@ -24,12 +24,12 @@ abbrev pub ranged_rows_in : List RowsByKey → ℕ → KeyRange → List Version
 ranged_rows_in tables number range =
     option_map_or (λ (t : RowsByKey). rows_within t range) (table_of tables number) []
 
--- some versions are of these, and lack none that passes the test
+-- some versions are among all, and lack none that passes the test
 pub record LackNone (test : VersionRow → Bool) (all some : List VersionRow) : Type 0 where
   pub within : (v : VersionRow) → Contains some v → Contains all v
   pub whole : (v : VersionRow) → test v ≡ true → Contains all v → Contains some v
 
--- the new rows are the old ones, followed by those of such versions
+-- the new rows are the old ones, followed by the rows of versions that lack none
 abbrev pub AddLackingNone
     : (VersionRow → Bool) → List VersionRow → List PeriodRow → List PeriodRow → Type 0
 AddLackingNone test all old new =

@@ -25,7 +25,7 @@ pub record Opens {S : Type 0} (g : Ghosts S) (connection : Held S) (engine : Eng
       → HasNoStoreTable (state g connection).now.schema
       ⊎ (IsGoodStore AreConstrained (state g connection).now
       × ((history : History) × EngineRepresents g history engine))
-  -- if there was none, a new store is made after the tables of others, which keep their rows:
+  -- if there was none, a new store is made after all other tables, whose rows stay:
   -- without tables, at the first moment
   pub beside : IsUsable g engine.connection
       → HasNoStoreTable (state g connection).now.schema
@@ -33,6 +33,6 @@ pub record Opens {S : Type 0} (g : Ghosts S) (connection : Held S) (engine : Eng
       → IsCreatedAfter (state g connection) (state g engine.connection)
   pub empty : HasNoStoreTable (state g connection).now.schema
       → (engine.catalog.tables ≡ []) × (engine.clock ≡ first_moment)
-  -- others keep what they have after the store's tables
+  -- the other tables, after the store's, are as they were
   pub others : SparesOthers g connection engine.connection
   pub usable : WasUsable g connection engine.connection

@@ -40,7 +40,7 @@ planned_count (Update portion assignments condition) plan = length plan.ended
 planned_count (Delete portion condition) plan = length plan.ended
 
 -- the resolution of a statement of this word over a catalog: the change that it makes, if none
--- of its conditions holds (that of an empty row is left to the rows that are given); or else a
+-- of its conditions holds (an empty row is refused by the rows that are given); or else a
 -- refusal, the least whose condition holds, or out of memory
 pub record IsResolved
     (catalog : List TableDef)

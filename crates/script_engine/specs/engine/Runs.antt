@@ -50,7 +50,7 @@ use Rattle.statement_reports.specs.declared.outcome.Outcome.TheVariants.{Version
 use Rattle.statement_reports.specs.declared.outcome.VersionList.{VersionList}
 use Rattle.statement_reports.specs.declared.outcome.Word.TheVariants as word
 
--- the conditions of a change, with that of an empty period of a row that INSERT gives
+-- the conditions of a change, and the condition of an empty period of a row that INSERT gives
 abbrev pub ChangeApplies : List TableDef → Statement → Refusal → Type 0
 ChangeApplies catalog s = Holds (change_conditions catalog s ++ empty_period catalog s ∷ [])
 
@@ -66,7 +66,7 @@ AppliesOver catalog clock (statement.sequenced q) =
 AppliesOver catalog clock (statement.stored q) =
     Holds (stored_conditions catalog (statement.stored q))
 
--- in a history: over its tables and its clock
+-- the conditions of a statement in a history: over its tables and its clock
 abbrev pub StatementApplies : History → Statement → Refusal → Type 0
 StatementApplies history = AppliesOver (catalog_of history) (clock_of history)
 
@@ -153,7 +153,7 @@ pub record Creates
   pub done : outcome ≡ Done word.Create 0
   pub after : new ≡ with_event history (Created definition)
 
--- a change is made as it is resolved, at the clock, if it is lawful; the history as it was tells
+-- a change is made as it is resolved, at the clock, if it is lawful; the history as it was gives
 -- what is counted
 pub record Changes
     (history : History)

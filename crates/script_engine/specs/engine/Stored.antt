@@ -33,7 +33,7 @@ pub record HoldsTable (history : History) (versions : List TableVersion) (table 
 
 -- the contents are what the history says: its clock, its tables and, in any order, its versions
 pub record AreOfHistory (history : History) (c : Contents) : Type 0 where
-  -- the history is one that statements make: AT goes forward, and each change is made at the clock
+  -- the history is one that statements make: AT moves forward, and each change is made at the clock
   pub order : IsInOrder history
   pub clock : c.clock ≡ clock_of history
   pub tables : c.tables ≡ catalog_of history

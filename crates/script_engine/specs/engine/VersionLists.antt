@@ -24,7 +24,7 @@ abbrev pub value_position : TableDef → ℕ → ℕ
 value_position t place =
     length (filter (is_value_column t) (take place (enumerate_from 0 t.columns)))
 
--- the cell of a column that is no period column: the system columns have their moments, and others
+-- the cell of a column that is no period column: a system column's is a moment, each other one's
 -- the value at a position
 abbrev pub cell_of_kind : ColumnKind → ℕ → Cell
 cell_of_kind (RowStart p) position = From
@@ -52,7 +52,7 @@ version_columns t = map (version_column t) (enumerate_from 0 t.columns)
 
 -- ---- rows
 
--- the rows are those of the versions that the query shows, each once: by values, then period start,
+-- the rows are the versions that the query shows, each once: by values, then period start,
 -- then system start
 pub record AreShown (query : Stored) (versions rows : List VersionRow) : Type 0 where
   pub all : IsPermutation (shown_versions query versions) rows

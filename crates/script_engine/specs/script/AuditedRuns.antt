@@ -12,7 +12,7 @@ use Rattle.statement_reports.specs.declared.outcome.Outcome.{Outcome}
 use Rattle.statement_reports.specs.declared.entry.Entry.{Entry}
 
 -- a piece that spells no sound statement is refused, without an audit, and the history stays; the
--- entry of another is that of its statement
+-- entry of another piece is its statement's
 abbrev pub AuditedPieceStep : History → List Lexeme → Entry → History → Type 0
 AuditedPieceStep history piece entry new =
     ((refusal : Refusal) × (entry ≡ record { result = Err refusal; audit = None })
@@ -28,6 +28,6 @@ IsAuditedRunFrom = IsRunBy AuditedPieceStep
 abbrev pub results_of : List Entry → List (Result Outcome Refusal)
 results_of entries = map (λ (entry : Entry). entry.result) entries
 
--- from a new store on
+-- an audited run from a new store on
 abbrev pub IsAuditedRunOf : List ℕ → List Entry → Type 0
 IsAuditedRunOf = IsAuditedRunFrom (opened new_database)

@@ -13,7 +13,7 @@ ReceivesAll {L} Hears n old (result ∷ results) goes_on new =
     ⊎ ((middle : L) × Hears old n result true middle
     × ReceivesAll Hears (n + 1) middle results goes_on new)
 
--- the results are those of the first pieces, one after the other, each by such a step; of all of
+-- the results belong to the first pieces, one after the other, each by such a step; to all of
 -- them if the run is not stopped
 pub record StepFront {H R : Type 0} (IsStep : H → List Lexeme → R → H → Type 0)
     (opening : H) (pieces : List (List Lexeme)) (results : List R) (goes_on : Bool) (last : H)

@@ -44,7 +44,7 @@ Forgets history s count =
 
 -- ---- runs
 
--- the run of a piece of which this is kept, by the step of what is kept beside the number, and by
+-- the run of a piece with this record, by the step of the record without its number, and by
 -- the result that it has
 module _ {K : Type 0} (IsStep : History → List Lexeme → K → History → Type 0)
     (result_of : K → Result Outcome Refusal) where
@@ -53,11 +53,11 @@ module _ {K : Type 0} (IsStep : History → List Lexeme → K → History → Ty
     pub step : IsStep old piece noted.kept new
     -- a piece that is refused forgets none
     pub none : OnErr (result_of noted.kept) (noted.forgotten ≡ 0)
-    -- the number is that of its statement
+    -- the number is its statement's
     pub told : OnOk (result_of noted.kept)
         ((s : Statement) → IsStatement piece s → Forgets old s noted.forgotten)
 
--- over an engine, whatever its database holds
+-- steps over an engine, whatever its database holds
 module _ {S K : Type 0} (IsStep : EngineState S → List Lexeme → K → EngineState S → Type 0)
     (result_of : K → Result Outcome Refusal) where
   abbrev pub NotedStepOver : EngineState S → List Lexeme → Noted K → EngineState S → Type 0
@@ -92,7 +92,7 @@ is_past v = not (int_eq v.to forever)
 abbrev pub past_of : History → ℕ → List PlainVersion
 past_of history table = filter is_past (versions_of history table)
 
--- of the versions that a change touches each has ended after it or is forgotten
+-- each version that a change touches has ended after it or is forgotten
 abbrev pub ChangesEndOrForget : Type 0
 ChangesEndOrForget =
     (history : History) (change : Change) → clock_of history <ℤ forever

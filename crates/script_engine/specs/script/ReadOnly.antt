@@ -28,12 +28,12 @@ module _ {H K : Type 0} (MayRefuse : H → Statement → Refusal → Type 0)
       ⊎ ((IsQuery s → ⊥) × (new ≡ old)
       × ((refusal : Refusal) × MayRefuse old s refusal × (only.kept ≡ of_refusal refusal)))))
 
--- in a history
+-- the step of a piece over a store that is only read, in a history
 abbrev pub ReadOnlyPieceStep : {K : Type 0} → (History → List Lexeme → K → History → Type 0)
     → (Refusal → K) → History → List Lexeme → ReadOnly K → History → Type 0
 ReadOnlyPieceStep = ReadOnlyStep MayRefuseUnwritten
 
--- over an engine, whatever its database holds
+-- the step of a piece over an engine that is only read, whatever its database holds
 abbrev pub ReadOnlyPieceStepOver : {S K : Type 0}
     → (EngineState S → List Lexeme → K → EngineState S → Type 0)
     → (Refusal → K) → EngineState S → List Lexeme → ReadOnly K → EngineState S → Type 0
@@ -42,7 +42,7 @@ ReadOnlyPieceStepOver =
 
 -- ---- laws, each the contract of a function of this crate
 
--- a run over a store that is only read is a run of the same pieces, with the results that were kept
+-- a run over a store that is only read is a run of the same pieces, with the recorded results
 abbrev pub ReadOnlyRunsAreRuns : Type 0
 ReadOnlyRunsAreRuns =
     (old new : History) (pieces : List (List Lexeme))

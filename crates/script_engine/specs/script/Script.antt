@@ -40,16 +40,16 @@ PieceStepBy IsStep old piece result new =
     ⊎ ((s : Statement) × NoneApplies (TextApplies piece) × IsStatement piece s
     × IsStep old s result new)
 
--- in a history
+-- the step of a piece in a history
 abbrev pub PieceStep : History → List Lexeme → Result Outcome Refusal → History → Type 0
 PieceStep = PieceStepBy Step
 
--- over an engine, whatever its database holds
+-- the step of a piece over an engine, whatever its database holds
 abbrev pub PieceStepOver : {S : Type 0} → Ghosts S → EngineState S → List Lexeme
     → Result Outcome Refusal → EngineState S → Type 0
 PieceStepOver g = PieceStepBy (StepOver g)
 
--- over an engine, of what is kept of a piece: by the result that it has
+-- the step of a piece over an engine, with the piece's record: by the result that it has
 abbrev pub KeptStepOver : {S K : Type 0} → Ghosts S → (K → Result Outcome Refusal)
     → EngineState S → List Lexeme → K → EngineState S → Type 0
 KeptStepOver g result_of old piece kept = PieceStepOver g old piece (result_of kept)
@@ -72,8 +72,8 @@ RunPieces = StepPieces PieceStep
 abbrev pub most_bytes : ℕ
 most_bytes = 4_194_304
 
--- the condition of each refusal of a whole script: of one that is too large nothing else is judged,
--- and of one that isn't UTF-8 no token
+-- the condition of each refusal of a whole script: if it is too large nothing else is judged, and
+-- if it isn't UTF-8 no token
 abbrev pub ScriptApplies : List ℕ → Refusal → Type 0
 ScriptApplies script NotUtf8 = (length script ≤ most_bytes) × (IsUtf8 script → ⊥)
 ScriptApplies script ScriptTooLarge = most_bytes < length script
@@ -86,7 +86,7 @@ abbrev pub MayRefuseScript : List ℕ → Refusal → Type 0
 MayRefuseScript script refusal = MayAnswer (ScriptApplies script) refusal
 
 -- the refusals that a run of a whole script may get: its own, and, of a script that none of them
--- applies to, those of the store that is opened
+-- applies to, the refusals of the store that is opened
 abbrev pub MayRefuseRun : List ℕ → Refusal → Type 0
 MayRefuseRun script refusal =
     MayRefuseScript script refusal
@@ -117,6 +117,6 @@ pub record IsRunBy {H R : Type 0} (IsStep : H → List Lexeme → R → H → Ty
 abbrev pub IsRunFrom : History → List ℕ → List (Result Outcome Refusal) → Type 0
 IsRunFrom = IsRunBy PieceStep
 
--- from a new store on
+-- a run of a script from a new store on
 abbrev pub IsRunOf : List ℕ → List (Result Outcome Refusal) → Type 0
 IsRunOf = IsRunFrom (opened new_database)

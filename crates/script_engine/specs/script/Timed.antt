@@ -102,7 +102,7 @@ TimedPieceStepOver g = TimedStep (AtStepOver g) (λ engine. engine.clock)
 abbrev pub SpellsAhead : ℤ → List Lexeme → Type 0
 SpellsAhead time piece = (s : Statement) × IsStatement piece s × (is_ahead time s ≡ true)
 
--- the pieces and the results of a run at the system's time, and among them those of the ATs that
+-- the pieces and the results of a run at the system's time, and among them the ATs that
 -- move the clock to that time, each spelled by the function; but for ATs of the pieces that are
 -- refused since they are later
 abbrev pub AreWithAts : (ℤ → List Lexeme) → List (List Lexeme)
@@ -138,7 +138,7 @@ TimedRunsAreRuns =
     → (all : List (List Lexeme)) × (results : List (Result Outcome Refusal))
     × AreWithAts spelled pieces kept all results × RunPieces old all results new
 
--- at the system's time the clock does not go back, and it goes on to no moment that is later than
+-- at the system's time the clock never moves back, and never to a moment that is later than
 -- the system's time
 abbrev pub TimedClocksGoOn : Type 0
 TimedClocksGoOn =

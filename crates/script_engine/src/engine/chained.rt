@@ -22,7 +22,7 @@ fn chain_table(alloc: Global, ended: &mut Vec<EndedVersions>, number: u8) -> Res
     }
 }
 
-/// Chains the ended versions of the tables of these references; not for references without a
+/// Chains the ended versions of the tables of the references; not for references without a
 /// window.
 fn chain_references(
     alloc: Global,

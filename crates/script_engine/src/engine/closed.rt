@@ -33,7 +33,7 @@ use sqlite_trees::store::Alter;
 use std::alloc::Global;
 use version_store::VersionStore;
 
-/// Makes what `apply_plan` makes, and adds the versions that the plan ends to those of the table
+/// Makes what `apply_plan` makes, and adds the versions that the plan ends to the table's versions
 /// that have ended. On `Err` nothing is changed.
 pub fn apply_change<S: Alter>(
     alloc: Global,
@@ -96,8 +96,8 @@ pub fn no_versions(alloc: Global, table: &TableDef) -> Result<EndedVersions, Mem
     Ok(EndedVersions::new(alloc, Items::from_vec(positions)))
 }
 
-/// Adds a table without versions, as `add_index` does. On an error no table is added, and those
-/// that are there have the same versions.
+/// Adds a table without versions, as `add_index` does. On an error no table is added, and the
+/// earlier ones have the same versions.
 pub fn add_versions(
     alloc: Global,
     catalog: &Catalog,

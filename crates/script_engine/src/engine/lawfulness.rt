@@ -72,7 +72,7 @@ fn judge_plan(
 }
 
 /// The plan of a change over its table's current rows, if the change is lawful. The values of
-/// the rows that an INSERT gives are those of the plan. The keys of the added rows are those by
+/// the rows that an INSERT gives become the plan's. The keys of the added rows are those by
 /// which they were judged. The change is refused if such a row has a period without a day; with
 /// the least day on which it breaks its table's key, or else a reference; and else only out of
 /// memory.

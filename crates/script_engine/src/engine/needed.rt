@@ -1,6 +1,6 @@
 //! The rows that the table references of a query have to see: of the current rows in memory those
 //! that can be part of a combined row that meets the conditions of their select. So a query whose
-//! conditions leave a range of keys looks at the rows of these keys alone.
+//! conditions leave a range of keys looks at the rows with a key in that range alone.
 
 ghost use Rattle.std.specs.Prelude.{◌≡◌, ◌++◌, IfErr, IfOk, List, OnOk, Some, length, map};
 ghost use Rattle.std.specs.Prelude.{Contains};
@@ -63,8 +63,8 @@ fn width_of_number(catalog: &Catalog, number: u8) -> usize
     }
 }
 
-/// Adds copies of these rows, whose values a combined row has from a position on, without their
-/// system time. Those that the conditions rule out are left out.
+/// Adds copies of rows, whose values a combined row has from a position on, without their
+/// system time. Rows that the conditions rule out are left out.
 fn push_needed(
     alloc: Global,
     conjuncts: &[Cond],
@@ -105,8 +105,8 @@ fn needed_of_all(
     Ok(needed)
 }
 
-/// The rows of a table that are needed: those of the keys in the range that the conditions leave
-/// are looked at alone. Its rows have `width` values.
+/// The rows of a table that are needed: only the rows of the keys in the range that the conditions
+/// leave are looked at. Its rows have `width` values.
 fn needed_of(
     alloc: Global,
     conjuncts: &[Cond],
@@ -152,9 +152,9 @@ fn needed_current(
 
 // ---- the references of a query
 
-/// The rows that a table reference has to see through its window: of those that it sees, the
+/// The rows that a table reference has to see through its window: of the rows that it sees, the
 /// current rows of the keys in the range that the conditions leave, and the versions that have
-/// ended, or, if the range has one key, those of them that may have it. The rows of its table have
+/// ended, or, if the range has one key, the ended ones that may have it. The rows of its table have
 /// `width` values.
 fn needed_through(
     alloc: Global,
@@ -206,7 +206,7 @@ fn needed_by(
     }
 }
 
-/// Adds to lists what each of these references of a select has to see, in their order. The values
+/// Adds to lists what each reference of a select has to see, in their order. The values
 /// of the first begin at this position of a combined row.
 fn push_needed_by_each(
     alloc: Global,
@@ -282,9 +282,9 @@ fn needed_tables(
 }
 
 /// The answer of a query over the rows in memory. Of what its references see, only what it needs is
-/// looked at, which in a history always fits a query of the catalog. Where it does not, the rows in
-/// memory are those of no history, and the refusal is 62. The versions that have ended are the same
-/// afterwards, chained where that may help.
+/// looked at, which in a history always fits a query of the catalog. If it does not, the rows in
+/// memory are no history's, and the refusal is 62. The versions that have ended are the same
+/// afterwards, chained if that may help.
 pub fn answer_query(
     alloc: Global,
     catalog: &Catalog,

@@ -36,7 +36,7 @@ use std::alloc::Global;
 
 // ---- the rows that a table reference sees
 
-/// Adds copies of those of these versions that the window sees, without their system time.
+/// Adds copies of the versions that the window sees, without their system time.
 fn push_current(
     alloc: Global,
     window: &Window,
@@ -294,7 +294,7 @@ pub fn tables_of(
 
 // ---- the answer
 
-/// The select list that names the columns of a query's answer: that of its leftmost select.
+/// The select list that names the columns of a query's answer: its leftmost select has it.
 fn items_of(query: &Query) -> &[AnswerColumn]
     ensures { result.now ≡ columns_of (plain_query query.now) }
 {

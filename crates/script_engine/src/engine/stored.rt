@@ -19,7 +19,7 @@ use period_core::{Memory, VersionRow, Window};
 use period_keys::{CurrentRows, KeyRange, TableIndex, range_of_key};
 use std::alloc::Global;
 
-/// Adds copies of the versions that the query shows of these.
+/// Adds copies of the versions that the query shows.
 fn push_shown(
     alloc: Global,
     query: &Stored,
@@ -48,7 +48,7 @@ fn range_of(alloc: Global, query: &Stored, positions: &[usize]) -> Result<KeyRan
     }
 }
 
-/// The versions that the query shows of those of all keys of a table.
+/// The versions that the query shows, of a table's current ones with any key.
 fn shown_of_all(
     alloc: Global,
     query: &Stored,
@@ -64,8 +64,8 @@ fn shown_of_all(
     Ok(shown)
 }
 
-/// The versions that the query shows of a table's current ones. Those of the keys in the range that
-/// its condition leaves are looked at alone.
+/// The versions that the query shows, of a table's current ones. Only the keys in the range that
+/// its condition leaves are looked at.
 fn shown_of(alloc: Global, query: &Stored, current: &CurrentRows) -> Result<Vec<VersionRow>, Memory>
     ensures { IfOk result
         (λ shown. shown.items ≡ shown_versions query.now current.now.rows) }
@@ -159,7 +159,7 @@ fn current_shown(
 
 /// The versions of its table that a stored query shows, by values, then period start, then system
 /// start: of those in memory, which are all. Those that have ended are the same afterwards, chained
-/// where that may help.
+/// if that may help.
 pub fn shown_by(
     alloc: Global,
     tables: &[TableIndex],

@@ -20,11 +20,11 @@ use statement_reports::{Entry, Outcome, Word};
 use std::alloc::Global;
 use std::time::Clock;
 
-/// A result that is kept of a piece, and how many versions its statement forgot: those that it
+/// A recorded result of a piece, and how many versions its statement forgot: those that it
 /// ended at the very moment at which they began. The history before it has them, and none after it.
 #[derive(Drop)]
 pub struct Noted<K> {
-    /// The result that is kept of the piece.
+    /// The recorded result of the piece.
     pub kept: K,
     /// The number of versions.
     pub forgotten: u64,

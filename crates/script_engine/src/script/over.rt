@@ -18,7 +18,7 @@ use std::time::Clock;
 
 /// Runs a script over an engine, and passes what it keeps of each piece to the listener as soon as
 /// the piece is done, its change in the database. Says whether the run came to the script's end: it
-/// ends before where the listener asks for no more. An `Err` is the refusal of the whole script, or
+/// ends earlier if the listener asks for no more. An `Err` is the refusal of the whole script, or
 /// out of memory: then nothing is run and nothing passed on. The clock gives the system's time,
 /// which only results that are [`Timed`] take; else AT alone moves the engine's clock.
 ///

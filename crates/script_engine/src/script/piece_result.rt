@@ -1,5 +1,5 @@
 //! The result of a piece of a script, as a run keeps it: alone, or with the audit of its answer.
-//! `timed.rt` has what is kept beside the system's time.
+//! `timed.rt` adds the system's time.
 
 ghost use Rattle.std.specs.Prelude.{◌≡◌, List, None, Err};
 ghost use Rattle.period_core.specs.Leasts.{MayAnswer, NoneApplies};
@@ -24,15 +24,15 @@ use statement_reports::{Entry, Outcome};
 use std::alloc::Global;
 use std::time::Clock;
 
-/// A value that is kept of a piece.
+/// A record of a piece.
 pub trait PieceResult<S: Alter> {
-    /// The pieces of which it may be kept in a history, and the history that follows.
+    /// The pieces of which it may be the record in a history, and the history that follows.
     ghost is_step: { History → List Lexeme → Self → History → Type 0 };
 
-    /// The pieces of which it may be kept between states of an engine, whatever its database holds.
+    /// The pieces of which it may be the record between states of an engine, over any database.
     ghost is_step_over: { EngineState S → List Lexeme → Self → EngineState S → Type 0 };
 
-    /// The value that is kept of a piece that is refused before it is run.
+    /// The record of a piece that is refused before it is run.
     ghost of_refusal: { RefusalModel → Self };
 
     /// Of a piece that is refused before it is run, as by its tokens alone.

@@ -27,7 +27,7 @@ use std::time::{Clock, Duration};
 /// later than that time is refused with 13.
 #[derive(Drop)]
 pub struct Timed<K> {
-    /// The system's time, in whole microseconds. The first moment where the system gave none from
+    /// The system's time, in whole microseconds. The first moment if the system gave none from
     /// 1970-01-01 00:00:00 on that is before FOREVER, and of a piece that is refused by its text.
     pub time: Moment,
     /// The result of the piece.
@@ -101,7 +101,7 @@ fn is_query(statement: &Statement) -> bool
     }
 }
 
-// Moves the clock to a time, where a statement that is to be run then wants it. An `Err` refuses
+// Moves the clock to a time, if a statement that is to be run then wants it. An `Err` refuses
 // the statement and changes nothing.
 fn ready<S: Alter>(
     engine: &mut Engine<S>,

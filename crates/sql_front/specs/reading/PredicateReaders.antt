@@ -87,7 +87,7 @@ relation_word =
     (or_test (keyword (codes "CONTAINS")) (or_test (keyword (codes "IMMEDIATELY"))
     (or_test (keyword (codes "PRECEDES")) (keyword (codes "SUCCEEDS"))))))
 
--- such a word after the column that these tokens begin with
+-- a relation's word after the column that these tokens begin with
 unfoldable pub relation_after_column : List Lexeme → Bool
 relation_after_column [] = false
 relation_after_column (first ∷ rest) =

@@ -93,7 +93,7 @@ enclosed_read {A} p =
     preceded_read (symbol (codes "("))
     (built_read (λ (v : A × Unit {0}). v.0) (sequence_read p (fixed_read (symbol (codes ")")))))
 
--- all of the tokens
+-- the value of a reader that reads all of the tokens
 abbrev pub nothing_after : {A : Type 0} → A × List Lexeme → Option A
 nothing_after x = elim x.1 [ [] ↦ Some x.0 | t ∷ more ↦ None ]
 

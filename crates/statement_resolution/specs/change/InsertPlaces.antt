@@ -18,7 +18,7 @@ use Rattle.catalog_core.specs.declared.table.ColumnKind.{ColumnKind}
 use Rattle.catalog_core.specs.declared.table.TableDef.{TableDef}
 use Rattle.catalog_core.specs.declared.table.ValueKind.TheVariants.{Text}
 
--- the names that a row's values are given for stand for the columns at these places
+-- the names that a row's values are given for are the names of the columns at these places
 abbrev pub ArePlaces : TableDef → Option (List Name) → List ℕ → Type 0
 ArePlaces t list places = map (def_place t) (given_names t list) ≡ map Some places
 
@@ -27,7 +27,7 @@ unfoldable pub is_faulty_for : ValueFault → ColumnKind → Value → Bool
 is_faulty_for fault.Kind kind value = not (same_kind (kind_of_column kind) (kind_of_value value))
 is_faulty_for fault.Length kind value = is_longer kind value
 
--- for the column at a place, among those of a row, and among those of the rows
+-- the value for the column at a place is wrong in one of the two ways
 unfoldable pub is_faulty_at : ValueFault → List Column → ℕ × Value → Bool
 is_faulty_at way columns given =
     passes (λ (x : Column). is_faulty_for way x.kind given.1) (slice_get columns given.0)

@@ -106,12 +106,12 @@ unfoldable pub is_too_long : TableDef → Name × Value → Bool
 is_too_long t given =
     list_any (λ (x : Column). bytes_eq given.0 x.name && is_longer x.kind given.1) t.columns
 
--- a value that is wrong in one of the two ways, among those of a row, and among those of the rows
+-- a value that is wrong in one of the two ways, among the values of a row, and of the rows
 unfoldable pub is_faulty : ValueFault → TableDef → Name × Value → Bool
 is_faulty fault.Kind t given = is_of_other_kind t given
 is_faulty fault.Length t given = is_too_long t given
 
--- a value of the row is wrong so
+-- a value of the row is wrong in one of the two ways
 unfoldable pub gives_faulty_value : ValueFault → TableDef → Option (List Name) → List Value → Bool
 gives_faulty_value way t list row =
     list_any (λ (given : Name × Value). is_faulty way t given) (given_values t list row)

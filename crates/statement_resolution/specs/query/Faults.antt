@@ -38,11 +38,11 @@ matches_among columns reference = filter (names_column reference) columns
 abbrev pub are_matching : MatchCount → List SeenColumn → Bool
 are_matching wanted matches = is_matching wanted (length matches)
 
--- one that matches is a period or system column, so that rows have no value for it
+-- one of the matching columns is a period or system column, so that rows have no value for it
 abbrev pub are_of_period : List SeenColumn → Bool
 are_of_period matches = list_any (λ seen. not (has_value seen)) matches
 
--- of a name that matches these: nothing (24), several (25), a period or system column (27); a
+-- a name's faults by its matches: nothing (24), several (25), a period or system column (27); a
 -- table's name that is not known there, or a period's name in the place of a column, matches
 -- nothing
 unfoldable pub match_faults : List SeenColumn → Faults
@@ -136,7 +136,7 @@ differ_somewhere left right =
     list_any (λ (kinds : Option ValueKind × Option ValueKind). differ kinds.0 kinds.1)
     (zip left right)
 
--- of a set operator over sides with columns of these kinds: different numbers of columns (29), or
+-- a set operator's faults by the kinds of both sides' columns: different numbers (29), or
 -- columns of two kinds in one place (30)
 abbrev pub kinds_faults : List (Option ValueKind) → List (Option ValueKind) → Faults
 kinds_faults left right = record no_faults {

@@ -23,7 +23,7 @@ is_above_limit query =
     nat_lt most_operators (operator_count query) || list_any is_too_long (selects_of query)
 
 -- the refusals that a query may get, each with its condition: no query has a text that is too long
--- or an empty period. That of too many tokens is judged on the text.
+-- or an empty period. The condition of too many tokens is judged on the text.
 abbrev pub refusals_of : List TableDef → Query → List RefusalCondition
 refusals_of catalog query =
     (LimitReached, is_above_limit query) ∷ fault_conditions (query_faults catalog query)

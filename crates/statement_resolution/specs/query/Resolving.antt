@@ -36,7 +36,7 @@ use Rattle.catalog_core.specs.declared.table.ValueKind.{ValueKind}
 
 -- ---- positions
 
--- the columns of these tables that rows have a value for: a combined row has their values, one
+-- the columns of some tables that rows have a value for: a combined row has their values, one
 -- after the other
 abbrev pub seen_values : List TableDef → List TableReference → List SeenColumn
 seen_values catalog tables = filter has_value (seen_columns catalog tables)
@@ -150,7 +150,7 @@ abbrev pub IsSequenced : Statement → Type 0
 IsSequenced (sequenced query) = Unit {0}
 IsSequenced _ = ⊥
 
--- the refusals that a statement may get as a sequenced query; others have none
+-- the refusals that a statement may get as a sequenced query; another statement has none
 abbrev pub query_conditions : List TableDef → Statement → List RefusalCondition
 query_conditions catalog (sequenced query) = refusals_of catalog query
 query_conditions catalog _ = []

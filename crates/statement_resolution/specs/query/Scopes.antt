@@ -22,7 +22,7 @@ chain_tables chain = chain.first ∷ map (λ (join : Join). join.reference) chai
 abbrev pub tables_of : Select → List TableReference
 tables_of select = flat_map chain_tables select.chains
 
--- the scope of a place in a select: these tables, which come after others of the same select
+-- the scope of a place in a select: some tables, which come after earlier ones of the same select
 pub record Scope : Type 0 where
   pub before : List TableReference
   pub seen : List TableReference
@@ -43,7 +43,7 @@ chain_conditions before seen (join ∷ joins) =
     (record { before = before; seen = seen ++ join.reference ∷ [] }, join.condition)
     ∷ chain_conditions before (seen ++ join.reference ∷ []) joins
 
--- the conditions of ON of these chains, which come after other tables
+-- the conditions of ON of some chains, which come after other tables
 abbrev pub on_conditions : List TableReference → List JoinChain → List ScopedCondition
 on_conditions before [] = []
 on_conditions before (chain ∷ chains) =

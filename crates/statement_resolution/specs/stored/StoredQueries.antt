@@ -62,7 +62,7 @@ stored_query_conditions catalog s =
     ∷ (EmptyPeriod, of_named (is_flawed_stored Empty s) catalog s.table)
     ∷ []
 
--- the conditions of a statement that is a stored query; others have none
+-- the conditions of a statement that is a stored query; another statement has none
 abbrev pub stored_conditions : List TableDef → Statement → List RefusalCondition
 stored_conditions catalog (stored s) = stored_query_conditions catalog s
 stored_conditions catalog _ = []

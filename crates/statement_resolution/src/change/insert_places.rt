@@ -31,7 +31,7 @@ fn wanted_places(alloc: Global, table: &TableDef) -> Result<Vec<usize>, Memory>
     Ok(places)
 }
 
-/// The place of the column that each value of a row is given for. Each name of the list is that of
+/// The place of the column that each value of a row is given for. Each name of the list is a
 /// a column.
 pub fn given_places(
     alloc: Global,

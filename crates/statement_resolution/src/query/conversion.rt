@@ -24,7 +24,7 @@ use period_core::{Items, Memory};
 use sql_statements::{Compare, SelectItem, TableReference, Tree};
 use std::alloc::Global;
 
-/// The first member of a condition's outermost AND, and the others. The parser gives a chain of OR
+/// The first member of a condition's outermost AND, and the rest. The parser gives a chain of OR
 /// even if it has one part, so an OR of one part counts as that part.
 fn outer_and(condition: &Tree<Compare>) -> (&Tree<Compare>, &[Tree<Compare>])
     ensures { members (plain_condition condition.now)

@@ -1,4 +1,4 @@
-//! The faults of a sequenced query: those of its selects, and those of the two sides of each of its
+//! The faults of a sequenced query: the faults of its selects, and of the two sides of each of its
 //! set operators.
 
 ghost use Rattle.std.specs.Prelude.{◌≡◌, IfOk, MatchOption};

@@ -14,7 +14,7 @@ use period_core::Memory;
 use sql_statements::{ColumnReference, Compare};
 use std::alloc::Global;
 
-/// The columns that are seen, and those of the tables before them in the select.
+/// The columns that are seen, and the columns of the tables before them in the select.
 #[derive(Clone, Copy)]
 pub struct Scope<'a> {
     pub before: &'a [SeenColumn<'a>],

@@ -24,7 +24,7 @@ use sql_statements::{JoinChain, NonEmpty, SelectDistinct};
 use std::alloc::Global;
 
 /// Adds the members of the conditions of ON in a chain, and the columns of its tables, which come
-/// after those of the chains before it.
+/// after the columns of earlier chains.
 fn push_chain<'a>(
     alloc: Global,
     catalog: &'a Catalog,

@@ -15,7 +15,7 @@ use sqlite_trees::store::Alter;
 use std::alloc::Global;
 
 impl<S: Alter> VersionStore<S> {
-    /// Adds the versions of the table of a number to a copy that has those of the tables before it,
+    /// Adds the versions of the table of a number to a copy that has the earlier tables' versions,
     /// in their order.
     fn copy_table<T: Alter>(
         &mut self,
@@ -42,7 +42,7 @@ impl<S: Alter> VersionStore<S> {
     }
 
     /// Writes a copy of the store into a new database, of form 2: it has the same clock, the same
-    /// definitions and the same versions, those of each table by values, then period start, then
+    /// definitions and the same versions, each table's by values, then period start, then
     /// system start. The store is not changed. A database that has tables, indexes or views is
     /// refused with 62. On `Err`, 61 or 62, the new database may have a part of the copy.
     pub fn copy_into<T: Alter>(

@@ -36,7 +36,7 @@ use std::marker::Model;
 use version_tables::{Form, Presence, tables_there};
 
 /// A store as `VersionStore::open` gives it. Its definitions, its clock and each of its versions
-/// are those of a good store. Whether its current rows keep the keys and references of their tables
+/// are a good store's. Whether its current rows keep the keys and references of their tables
 /// is still to be judged, by whoever knows these; so it cannot be changed. `accept` gives the store
 /// for use, `refuse` gives the connection back. A database of form 1 is read in microseconds, and
 /// stays of form 1 until it is accepted.
@@ -71,7 +71,7 @@ impl<S: Alter> OpenedStore<S> {
         self.store.clock()
     }
 
-    /// The store, for use: its keys and references were found kept. With what these ask of the
+    /// The store, for use: its keys and references were found to hold. With what these ask of the
     /// contents, by whichever test, the store meets all six points. A database of form 1 is moved
     /// to form 2, in one transaction; one of form 2 is not written. On `Err`, 61 or 62, the
     /// database is as it was opened, the connection is returned, and no transaction is open on it.
@@ -135,11 +135,11 @@ impl<S: Alter> OpenedStore<S> {
 
 impl<S: Alter> VersionStore<S> {
     /// Opens a store, which is then still to be accepted. In a database that has none of the three
-    /// tables they are made, as by `create`, after what others have there. If all three are
-    /// there, the store is opened exactly if it is a good one but for its keys and references; what
+    /// tables they are made, as by `create`, after all other tables. If all three
+    /// exist, the store is opened exactly if it is a good one but for its keys and references; what
     /// it holds is then as it was closed, of form 1 in microseconds. Tables, indexes and views that
-    /// others have after the three do not count. If the three are not as the store makes them,
-    /// or follow tables of others, the contract says only that a refusal changes nothing. Beside
+    /// follow the three do not count. If the three are not as the store makes them,
+    /// or follow other tables, the contract says only that a refusal changes nothing. Beside
     /// the store are the version rows of each table, each list in any order: they are read as the
     /// store is judged, and so once. On `Err` nothing is changed, the connection is returned, and
     /// no transaction is open on it.

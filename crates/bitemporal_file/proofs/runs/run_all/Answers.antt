@@ -150,7 +150,7 @@ returns-clause-ran g c =
       did,
     )
 
--- ---- the tables of others
+-- ---- the other tables of the database
 
 pub returns-in_err-goes_on-clause-others : goal.returns-in_err-goes_on-clause-others
 returns-in_err-goes_on-clause-others g c =

@@ -24,7 +24,7 @@ parts-init g c = record {
   ran = ([], refl, refl, All-nil _, refl, none_recorded (λ out. None) g.K.Reported.text g.K.Reported.status_of c.args.reporter.now c.requires, (λ none. Appends-nil _), refl, λ usable history stands. (history, refl, stands));
 }
 
--- a part was not read
+-- the read of a part failed
 
 pub returns-in_err-part-clause-ran : goal.returns-in_err-part-clause-ran
 returns-in_err-part-clause-ran g c =
@@ -40,7 +40,7 @@ returns-in_err-part-clause-ran g c =
       did,
     )
 
--- there is none
+-- no part is left
 
 pub returns-in_default-clause-ran : goal.returns-in_default-clause-ran
 returns-in_default-clause-ran g c =
@@ -73,7 +73,7 @@ returns-in_err-goes_on-clause-ran g c =
           (last, leads, subst (EngineRepresents g.S.Store last) (sym engine) represents),
     )
 
--- a part whose report failed
+-- the report of a part failed
 
 pub returns-in-Some-fault-clause-ran : goal.returns-in-Some-fault-clause-ran
 returns-in-Some-fault-clause-ran g c =
@@ -149,7 +149,7 @@ returns-clause-ran g c =
       did,
     )
 
--- the session continues
+-- the session continues after a part
 
 pub parts-preserved : goal.parts-preserved
 parts-preserved g c =
@@ -180,7 +180,7 @@ parts-preserved g c =
       );
     }
 
--- ---- the tables of others
+-- ---- the other tables of the database
 
 pub returns-in_err-goes_on-clause-others : goal.returns-in_err-goes_on-clause-others
 returns-in_err-goes_on-clause-others g c =

@@ -71,7 +71,7 @@ column_exact x y a b left right same =
     let kind : x.kind ≡ y.kind = kind_exact x.kind y.kind a b (ap (drop 1) same) in
     ap (λ (n : List ℕ). column_of n x.kind) name ∙ ap (column_of y.name) kind
 
--- so many parts, and a list of them
+-- a list of parts, with their number before them, is read exactly
 list_exact : {A : Type 0} (fits : A → Bool) (written : A → List Value) → IsPrefixCode fits written → IsExact fits written
     → (xs ys : List A) (a b : List Value) → length xs ≡ length ys → list_all fits xs ≡ true → list_all fits ys ≡ true
     → flat_map written xs ++ a ≡ flat_map written ys ++ b → xs ≡ ys

@@ -35,7 +35,7 @@ module _ {T : Type 0} where
   pub test_view : (leaf : T) → plain_condition (code.Test leaf) ≡ test leaf
   test_view leaf = ap plain_condition (sym (rolls.rolls-Test leaf)) ∙ fold-roll-Tree T (Condition T) condition_layer (layer.Test leaf)
 
--- the truth of a part
+-- the truth of a condition, by the truth of its tests
 abbrev pub truth : {T : Type 0} → (T → Bool) → code.Tree T → Bool
 truth p part = is_satisfied p (plain_condition part)
 

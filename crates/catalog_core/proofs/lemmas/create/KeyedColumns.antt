@@ -81,7 +81,7 @@ both_ways true b there back = sym (there refl)
 both_ways false true there back = back refl
 both_ways false false there back = refl
 
--- the name that was found, of the keys or of the references, is that of a column
+-- the name that was found, of the keys or of the references, is a column's
 name_keyed : (c : CreateTable) (name : Name) → is_keyed c name ≡ true → is_no_value_column c name ≡ true → is_matching Zero (own_matches c name) ≡ false → some_keyed_non_value_column c ≡ true
 unfolding some_keyed_non_value_column
 name_keyed c name there other matching =

@@ -88,7 +88,7 @@ passed_all tables d p = rw (p.limits, p.free, p.distinct, p.period, p.dated, p.s
 
 -- ==== no condition of the CREATE holds ====
 
--- a test of the references
+-- a test of all references, by a test of each
 each_reference : (tables : List TableDef) (d : TableDef) (p : ReferenceElement → Bool) → list_all has_distinct_names tables ≡ true → Passed tables d
     → ((r : Reference) → IsSoundReference tables d (spelled_reference tables d (elements d) r) r → p (spelled_reference tables d (elements d) r) ≡ false)
     → list_any p (map (spelled_reference tables d (elements d)) d.references) ≡ false

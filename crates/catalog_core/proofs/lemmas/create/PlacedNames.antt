@@ -1,4 +1,4 @@
--- The names of a table's columns by their places, if no two columns share one: a name stands for its place alone.
+-- The names of a table's columns by their places, if no two columns share one: a name has one place.
 use Rattle.std.proofs.Common.{◌≡◌, ◌<◌, ◌+◌, ◌∷◌, ◌&&◌, ◌||◌, ◌∙◌, ℕ, zero, suc, Bool, true, false, List, [], None, Some, arith, ap, ap₂, bytes_eq, cond, count_by, get_or, length, map, nat_lt, refl, sym}
 use Rattle.std.specs.Prelude.{◌==◌, find, slice_get}
 use Rattle.std.specs.List.{list_all, list_any, position, position_or_len}
@@ -60,7 +60,7 @@ none_where q p none (x ∷ xs) all =
 pub counted_cons : {X : Type 0} (p : X → Bool) (x : X) (xs : List X) → count_by p (x ∷ xs) ≡ cond (p x) 1 0 + count_by p xs
 counted_cons p x xs = sum_by-cons (λ y. cond (p y) 1 0) x xs
 
--- the element at a place
+-- a place within a list has an element
 pub at_place : {X : Type 0} (xs : List X) (i : ℕ) → i < length xs → (x : X) × (slice_get xs i ≡ Some x)
 at_place [] i here = absurd (omega (arith, here))
 at_place (x ∷ xs) zero here = (x, refl)
@@ -81,7 +81,7 @@ named other t i = name_at (λ (x : Column). x.name) other t.columns i
 pub named_there : (other : Name) (t : TableDef) (i : ℕ) (x : Column) → slice_get t.columns i ≡ Some x → named other t i ≡ x.name
 named_there other t i x there = ap (name_or column_name other) there
 
--- the name of the column at a place stands for that place
+-- the column at a place is found by its name
 pub placed_there : (t : TableDef) (i : ℕ) (x : Column) → has_distinct_names t ≡ true → slice_get t.columns i ≡ Some x → def_place t x.name ≡ Some i
 placed_there t i x distinct there =
     its_place t i x distinct (slice_get_within t.columns i x there) (sym (get_or_from_slice_get t.columns i x x there))
@@ -94,7 +94,7 @@ place_named other t i distinct here =
 pub same_name : (name : Name) → bytes_eq name name ≡ true
 same_name name = (bytes_eq-Decides name name).1 refl
 
--- and is that of no other
+-- no other column has the name
 pub names_apart : (other : Name) (t : TableDef) (i k : ℕ) → has_distinct_names t ≡ true → nat_lt i (length t.columns) ≡ true → nat_lt k (length t.columns) ≡ true
     → bytes_eq (named other t i) (named other t k) ≡ (i == k)
 names_apart other t i k distinct first second =

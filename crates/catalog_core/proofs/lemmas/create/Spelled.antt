@@ -88,7 +88,7 @@ reference_element : List Name → Name → Name → List Name → Name → Refer
 reference_element columns period parent parent_columns parent_period =
     record { columns = columns; period = period; parent = parent; parent_columns = parent_columns; parent_period = parent_period }
 
--- by the parent that it is found to have
+-- a reference is spelled by the parent that it is found to have
 reference_spelled : (tables : List TableDef) (c : CreateTable) (d : TableDef) (x : ReferenceElement) (r : Reference) (t : TableDef)
     → x.columns ≡ map (own_name d c.columns) r.own → x.period ≡ d.period.name → x.parent ≡ t.name
     → map (def_place t) x.parent_columns ≡ map Some r.keys → x.parent_period ≡ t.period.name → x ≡ reference_to d c.columns t r
@@ -162,7 +162,7 @@ spelled_one tables c d none defines =
     ∙ ap (create_element d.name c.columns spelled.periods spelled.system_periods spelled.keys) references
     ∙ ap (create_with tables d) (columns_declared c.columns d.columns defines.columns)
 
--- so if some CREATE that is accepted gives the definition, this one does
+-- if some accepted CREATE gives the definition, the spelled one does
 pub spelled_given : (tables : List TableDef) (c : CreateTable) (d : TableDef) → c ≡ create_of tables d → IsLawful tables d → NoneApplies (Holds (create_conditions tables c)) × Defines tables c d
 spelled_given tables c d is given =
     let Gives : CreateTable → Type 0 = λ x. NoneApplies (Holds (create_conditions tables x)) × Defines tables x d in

@@ -229,7 +229,7 @@ sort_of_named tables d wanted i x distinct there =
     ∙ only_one p q d.columns i x here own (few_named d i x distinct here item)
     ∙ ap q (sym item)
 
--- a name of the first column of a sort is that of its place
+-- a name of the first column of a sort has the place of that column
 sort_named : (d : TableDef) (wanted : ColumnSort) (i : ℕ) (x : Column) (at : SortAt wanted d.columns) → has_distinct_names d ≡ true → slice_get d.columns i ≡ Some x
     → bytes_eq (named d.name d i) (name_of_sort wanted d.name (elements d)) ≡ true → at.column ≡ x
 sort_named d wanted i x at distinct there same =
@@ -292,7 +292,7 @@ five_tests tables d i x placed there =
           ∙ end_system at.column.kind (sym (sort_end at.column.name at.column.kind) ∙ at.sorted);
     }
 
--- a value column's place
+-- a value column's place has a column
 pub value_at : (d : TableDef) (i : ℕ) → is_value_place d i ≡ true → (x : Column) × (slice_get d.columns i ≡ Some x)
 unfolding is_value_place
 value_at d i value =
@@ -301,7 +301,7 @@ value_at d i value =
       | Some x ↦ (λ e v. (x, e))
     ]) refl value
 
--- a name is that of a value column if its place is one
+-- a name is a value column's if its place is one
 value_named : (tables : List TableDef) (d : TableDef) (i : ℕ) → IsPlaced d → is_value_place d i ≡ true → is_no_value_column (create_of tables d) (own_name d (elements d) i) ≡ false
 value_named tables d i placed value =
     let at = value_at d i value in
@@ -367,7 +367,7 @@ named_values tables d places placed within own =
     (all_values tables d places placed within
     (sym (any_mapped (λ name. is_no_value_column (create_of tables d) name) (own_name d (elements d)) places) ∙ own.value))
 
--- and their places
+-- the names of a reference's own columns have their places
 pub own_places : (tables : List TableDef) (d : TableDef) (places : List ℕ) → IsPlaced d → are_places (length d.columns) places ≡ true
     → map (own_place (create_of tables d)) (map (own_name d (elements d)) places) ≡ map Some places
 own_places tables d places placed within =

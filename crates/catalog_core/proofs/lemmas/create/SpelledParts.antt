@@ -28,7 +28,7 @@ use Rattle.catalog_core.specs.declared.table.TableDef.{TableDef}
 
 -- ==== names for places ====
 
--- a name is that of the element at its place
+-- a name belongs to the element at its place
 pub name_back : {X : Type 0} (named : X → Name) (other : Name) (xs : List X) (name : Name) (place : ℕ) → place_among named xs name ≡ Some place → name ≡ name_at named other xs place
 unfolding place_among
 name_back named other [] name place there = cc
@@ -104,7 +104,7 @@ record IsSpelled (type : TypeName) (side : Option Generated) (k : ColumnKind) : 
   type_is : type ≡ spelled_type k
   side_is : side ≡ spelled_side k
 
--- the kind that is declared tells the type and the side that is generated
+-- the declared kind gives the type and the side that is generated
 kind_declared : (type : TypeName) (side : Option Generated) (k : ColumnKind) → declared_kind type side ≡ Some k → IsSpelled type side k
 unfolding declared_kind
 kind_declared type_name.Integer None k e = let is = same_Some Integer k e in record { type_is = ap spelled_type is; side_is = ap spelled_side is }

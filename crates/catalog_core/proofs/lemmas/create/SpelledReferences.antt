@@ -62,7 +62,7 @@ spelled_to tables d t r there = ap (λ (o : Option TableDef). reference_to d (el
 
 -- ==== the conditions of one reference ====
 
--- none holds
+-- no condition holds against a reference
 pub record IsSoundReference (tables : List TableDef) (d : TableDef) (x : ReferenceElement) (r : Reference) : Type 0 where
   pub parent : is_none (parent_of tables x) ≡ false
   pub own : (w : MatchCount) → some_own_match (create_of tables d) w x.columns ≡ false
@@ -94,7 +94,7 @@ one_period : (tables : List TableDef) (d : TableDef) → is_matching Zero (perio
 unfolding is_matching period_matches
 one_period tables d = rw (same_name d.period.name) refl
 
--- the test of the parent
+-- a test of the parent by its name is the test of the parent
 same_parent : (tables : List TableDef) (d t : TableDef) (r : Reference) (p : TableDef → Bool) → HasParent tables d t r → passes p (parent_of tables (reference_to d (elements d) t r)) ≡ p t
 same_parent tables d t r p has = ap (passes p) (parent_found tables d t r has)
 

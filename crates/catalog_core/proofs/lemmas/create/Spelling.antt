@@ -40,7 +40,7 @@ spelled_side Date = None
 spelled_side (RowStart p) = Some Start
 spelled_side (RowEnd p) = Some End
 
--- a column
+-- a column as CREATE TABLE spells it
 abbrev pub spelled_column : Column → ColumnElement
 spelled_column x =
     record { name = x.name; kind = spelled_type x.kind; generated = spelled_side x.kind }
@@ -54,16 +54,16 @@ name_or named other (Some x) = named x
 abbrev pub name_at : {X : Type 0} → (X → Name) → Name → List X → ℕ → Name
 name_at named other xs place = name_or named other (slice_get xs place)
 
--- of the first column of a sort
+-- the name of the first column of a sort
 abbrev pub name_of_sort : ColumnSort → Name → List ColumnElement → Name
 name_of_sort wanted other columns =
     name_or (λ (x : ColumnElement). x.name) other (find (is_of_sort wanted) columns)
 
--- of the table's own column at a place, by its columns as they are declared
+-- the name of the table's own column at a place, by its columns as they are declared
 abbrev pub own_name : TableDef → List ColumnElement → ℕ → Name
 own_name d columns place = name_at (λ (x : ColumnElement). x.name) d.name columns place
 
--- of a parent's column at a place
+-- the name of a parent's column at a place
 abbrev pub parent_name : TableDef → TableDef → ℕ → Name
 parent_name d parent place = name_at (λ (x : Column). x.name) d.name parent.columns place
 
@@ -71,7 +71,7 @@ parent_name d parent place = name_at (λ (x : Column). x.name) d.name parent.col
 abbrev pub parent_or : List TableDef → TableDef → ℕ → TableDef
 parent_or tables d number = unwrap_or (table_of tables number) d
 
--- a reference to a parent
+-- a reference to a parent as CREATE TABLE spells it
 abbrev pub reference_to : TableDef → List ColumnElement → TableDef → Reference → ReferenceElement
 reference_to d columns parent r =
     record {
@@ -82,12 +82,12 @@ reference_to d columns parent r =
       parent_period = parent.period.name;
     }
 
--- a reference
+-- a reference as CREATE TABLE spells it
 abbrev pub spelled_reference :
     List TableDef → TableDef → List ColumnElement → Reference → ReferenceElement
 spelled_reference tables d columns r = reference_to d columns (parent_or tables d r.parent) r
 
--- the application period
+-- the application period as CREATE TABLE spells it
 abbrev pub spelled_period : TableDef → List ColumnElement → PeriodElement
 spelled_period d columns =
     record {
@@ -96,7 +96,7 @@ spelled_period d columns =
       end = own_name d columns d.period.end;
     }
 
--- SYSTEM_TIME
+-- SYSTEM_TIME as CREATE TABLE spells it
 abbrev pub spelled_system : TableDef → List ColumnElement → SystemElement
 spelled_system d columns =
     record {
@@ -104,7 +104,7 @@ spelled_system d columns =
       end = name_of_sort sort.RowEnd d.name columns;
     }
 
--- the key
+-- the key as CREATE TABLE spells it
 abbrev pub spelled_key : TableDef → List ColumnElement → KeyElement
 spelled_key d columns =
     record { columns = map (own_name d columns) d.key; period = d.period.name }

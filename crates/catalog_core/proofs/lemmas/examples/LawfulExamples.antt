@@ -48,7 +48,7 @@ lawful = (
   record { name = refl; columns = refl; period = refl; key = refl; references = refl },
 )
 
--- nor EMP if its parent is missing
+-- EMP is not lawful if its parent is missing
 without_parent : IsLawful [] emp → ⊥
 unfolding lacks_parent number_of table_of_name
 without_parent given = (spelled_given [] (create_of [] emp) emp refl given).0 UnknownTable (inr (inr (inl (refl, refl))))

@@ -7,12 +7,12 @@ pub or_right : (b : Bool) → (b || true) ≡ true
 or_right true = refl
 or_right false = refl
 
--- a test that nothing passes
+-- no element passes a test that nothing passes
 pub any_false : {X : Type 0} (xs : List X) → list_any (λ x. false) xs ≡ false
 any_false [] = refl
 any_false (x ∷ xs) = any_false xs
 
--- two tests that agree
+-- two tests that agree are passed by the same lists
 pub any_same : {X : Type 0} (f g : X → Bool) → ((x : X) → f x ≡ g x) → (xs : List X) → list_any f xs ≡ list_any g xs
 any_same f g same [] = refl
 any_same f g same (x ∷ xs) = rw (same x, any_same f g same xs) refl

@@ -6,7 +6,7 @@ use Rattle.std.proofs.lemmas.Bool.{and_from, and_parts}
 use Rattle.catalog_core.specs.declared.query.resolved.QueryReference.{QueryReference}
 use Rattle.catalog_core.specs.query.Fitting.{are_in_place}
 
--- the references of the second part go on where those of the first end
+-- the references of the second part begin where the first part's end
 both_in_place
     : (place : ℕ) (xs ys : List QueryReference) → are_in_place place (xs ++ ys) ≡ true
     → (are_in_place place xs ≡ true) × (are_in_place (place + length xs) ys ≡ true)
@@ -30,7 +30,7 @@ one_after_other place (x ∷ xs) ys first second =
     (one_after_other (place + 1) xs ys parts.1
     (ap (λ (n : ℕ). are_in_place n ys) (omega arith) ∙ second))
 
--- the first part already goes past the bound
+-- the first part is already past the bound
 pub first_past
     : (place bound : ℕ) (all xs ys : List QueryReference) → all ≡ xs ++ ys
     → (are_in_place place xs ≡ true → bound < place + length xs) → are_in_place place all ≡ true
@@ -40,7 +40,7 @@ first_past place bound all xs ys is past e =
     let h = past parts.0 in
     omega (arith, h, ap length is, length-append xs ys)
 
--- the second part goes past it
+-- the second part moves past it
 pub second_past
     : (place next bound : ℕ) (all xs ys : List QueryReference) → all ≡ xs ++ ys
     → place + length xs ≡ next → (are_in_place next ys ≡ true → bound < next + length ys)
@@ -50,7 +50,7 @@ second_past place next bound all xs ys is reached past e =
     let h = past (ap (λ (n : ℕ). are_in_place n ys) (sym reached) ∙ parts.1) in
     omega (arith, h, reached, ap length is, length-append xs ys)
 
--- both are in place up to the bound
+-- both parts are in place up to the bound
 pub both_within
     : (place next end bound : ℕ) (all xs ys : List QueryReference) → all ≡ xs ++ ys
     → (are_in_place place xs ≡ true) × (place + length xs ≡ next) × (next ≤ bound)

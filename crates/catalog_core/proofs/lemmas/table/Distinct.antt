@@ -1,4 +1,4 @@
--- If no two columns share a name, a column's name stands for its own place.
+-- If no two columns share a name, a column is found by its name.
 use Rattle.std.proofs.Common.{◌≡◌, ◌<◌, ◌≤◌, ◌∷◌, ◌&&◌, ◌||◌, ◌∙◌, ℕ, zero, suc, Bool, true, false, not, List, [], None, Some, cond, bytes_eq, count_by, nat_lt, get_or, length, filter, refl, sym, ap, arith}
 use Rattle.std.specs.List.{list_any, position}
 use Rattle.std.proofs.lemmas.Bool.Decides.{nat_tests}
@@ -15,7 +15,7 @@ use Rattle.catalog_core.specs.declared.table.Column.{Column}
 use Rattle.catalog_core.specs.declared.table.TableDef.{TableDef}
 use Rattle.catalog_core.specs.table.Naming.{matches_among, place_among}
 
--- an element that passes is kept
+-- an element that passes is in the filtered list
 pub kept_some : {X : Type 0} (p : X → Bool) (xs : List X) (i : ℕ) (d : X) → i < length xs → p (get_or xs i d) ≡ true → 0 < length (filter p xs)
 kept_some p [] i d here passing = absurd (omega (arith, here))
 kept_some p (x ∷ xs) zero d here passing = rw passing (omega arith)
@@ -23,7 +23,7 @@ kept_some p (x ∷ xs) (suc i) d here passing =
     let more : 0 < length (filter p xs) = kept_some p xs i d (omega (arith, here)) passing in
     (elim (p x) as (λ b. 0 < length (cond b (x ∷ filter p xs) (filter p xs))) [ true ↦ omega (arith, more) | false ↦ more ])
 
--- of elements that pass there is one, if no more than one is kept
+-- elements that pass are at one place, if the filtered list has at most one
 same_place : {X : Type 0} (p : X → Bool) (xs : List X) (i k : ℕ) (d : X) → i < length xs → k < length xs
     → p (get_or xs i d) ≡ true → p (get_or xs k d) ≡ true → length (filter p xs) ≤ 1 → i ≡ k
 same_place p [] i k d first second one other few = absurd (omega (arith, first))
@@ -90,7 +90,7 @@ few_named t i x distinct here item =
 pub own_name : (x : Column) → bytes_eq x.name x.name ≡ true
 own_name x = (bytes_eq-Decides x.name x.name).1 refl
 
--- so it stands for the column's place
+-- the name gives the column's place
 pub its_place : (t : TableDef) (i : ℕ) (x : Column) → has_distinct_names t ≡ true → i < length t.columns → x ≡ get_or t.columns i x → def_place t x.name ≡ Some i
 unfolding place_among
 its_place t i x distinct here item =

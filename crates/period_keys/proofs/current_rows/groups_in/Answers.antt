@@ -38,7 +38,7 @@ loop-key-preserved-in-Continue-branch-2 c =
           ∙ sym (in_more range seen group (sym c.has.ensures ∙ c.if-has.true)),
     )
 
--- one whose key is passed over
+-- a group whose key is passed over
 pub loop-key-preserved : goal.loop-key-preserved
 loop-key-preserved c =
     let range = c.args.range.now in
@@ -51,7 +51,7 @@ loop-key-preserved c =
       found ∙ sym (out_more range seen group (sym c.has.ensures ∙ c.if-has.false)),
     )
 
--- one that no key in the range comes after
+-- a group whose key comes after no key in the range
 pub returns-then-not-passes_over : goal.returns-then-not-passes_over
 returns-then-not-passes_over c positions grouped =
     let range = c.args.range.now in

@@ -47,7 +47,7 @@ returns-after-loop-part g t c = λ value says.
     in_none (g.T.ColumnTest.Says c.args.comparison) c.args.condition.now c.in-And.first c.in-And.others c.args.position value c.in-And.is c.deref.result.now c.deref.ensures (c.in_default.ensures value)
     c.deref-part-items.result.now c.deref-part-items.ensures.value (λ k d below it. c.loop-part.invariant k d (omega (arith, below, c.loop-part-test.false)) value it) says
 
--- of an OR of one part
+-- an OR of one part says what its part says
 of_only : {T : Type 0} (Says : T → ℕ → Value → Type 0) (condition part : code.Tree T) (first : Box (code.Tree T)) (others : Vec (code.Tree T)) (position : ℕ) (found : Option (Bor Value)) → condition ≡ code.Or first others → others.items ≡ [] → part ≡ first.value
     → Finds Says (plain_condition part) position found → Finds Says (plain_condition condition) position found
 of_only {T} Says condition part first others position found is alone same h =

@@ -19,7 +19,7 @@ there_in : (positions : List ℕ) (m : Groups) (key : List Value) (x : VersionRo
 there_in positions m key x rest own grouped moved =
     in_group positions m key x grouped own (Contains-permutation (x ∷ rest) (rows_of_groups m.entries) x (IsPermutation-sym (rows_of_groups m.entries) (x ∷ rest) moved) (Contains-here x rest))
 
--- a row that is there is taken out
+-- a row of the group is taken out
 found : (r : Bool) (P Q : Type 0) → OnTrue r P → OnFalse r (Q → ⊥) → Q → P
 found true P Q is not q = is
 found false P Q is not q = absurd (not q)

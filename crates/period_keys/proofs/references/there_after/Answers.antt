@@ -14,7 +14,7 @@ loop-going-init c = λ stay moved.
     let sorted : List Period = c.in_ok-there.there.items.items in
     IsPermutation-trans sorted c.args.periods.now (c.args.gone.now ++ stay) (IsPermutation-sym c.args.periods.now sorted c.in_ok-there.ensures) moved
 
--- one that exists was taken out
+-- a period of the list was taken out
 less : (r : Bool) (old new rest : List Period) (p : Period) → OnTrue r (IsPermutation old (p ∷ new)) → OnFalse r (Contains old p → ⊥) → IsPermutation old (p ∷ rest) → IsPermutation new rest
 less true old new rest p taken absent moved = IsPermutation-uncons p new rest (IsPermutation-trans (p ∷ new) old (p ∷ rest) (IsPermutation-sym old (p ∷ new) taken) moved)
 less false old new rest p taken absent moved = absurd (absent (Contains-permutation (p ∷ rest) old p (IsPermutation-sym old (p ∷ rest) moved) (Contains-here p rest)))

@@ -7,7 +7,7 @@ use Rattle.period_keys.proofs.Leasts.{least_if_same}
 use Rattle.period_keys.proofs.SweepSteps.{keys_repeat}
 use Rattle.period_keys.proofs.sweep.rows_clash.Goals as goal
 
--- there are no two places
+-- a list of one row has no two places
 alone : (i j n : ℕ) → i < j → j < n → n < 2 → ⊥
 alone i j n before inside few = omega (arith, before, inside, few)
 

@@ -3,7 +3,7 @@ use Rattle.catalog_core.specs.declared.change.InsertedRow.{InsertedRow}
 use Rattle.history_model.specs.Portions.{plain_given, plain_row}
 use Rattle.portion_dml.proofs.plan.plan_given.Given as goal
 
--- the rows so far are added, and there is room for the others
+-- the rows so far are added, and there is room for the rest
 abbrev pub invariant-loop-row : goal.invariant-loop-row
 invariant-loop-row l =
     (done : List InsertedRow) × (l.fn.given ≡ done ++ l.row-iterator.rest.items)

@@ -13,7 +13,7 @@ use Rattle.script_engine.proofs.ListeningFacts.{all_kept, front_is_whole}
 use Rattle.script_engine.proofs.ScriptFacts.{not_bad}
 use Rattle.script_engine.proofs.script.run.Goals as goal
 
--- the results that were kept are those of all pieces, however the steps are reported
+-- the recorded results are the results of all pieces, however the steps are reported
 all_pieces : {H R : Type 0} (IsStep : H → List Lexeme → R → H → Type 0) (opening : H) (pieces : List (List Lexeme)) (room : AllKept R) (results : List R) (goes_on : Bool) (kept : AllKept R) (last : H) → room.kept.items ≡ [] →
     vec_len room.kept + length results ≤ vec_capacity room.kept → ReceivesAll AddsWhereRoom 1 room results goes_on kept → StepFront IsStep opening pieces results goes_on last → StepPieces IsStep opening pieces kept.kept.items last
 all_pieces IsStep opening pieces room results goes_on kept last none space heard run =

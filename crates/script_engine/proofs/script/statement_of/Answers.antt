@@ -11,7 +11,7 @@ use Rattle.script_engine.specs.script.Script.{IsOverlong}
 use Rattle.script_engine.proofs.PieceFacts.{may_of_text, none_of_text}
 use Rattle.script_engine.proofs.script.statement_of.Goals as goal
 
--- the tokens that are parsed are those of the piece
+-- the tokens that are parsed are the piece's
 parsed : (c : goal.After-drop-tokens) → lexemes c.as_slice.result.now ≡ lexemes_at c.args.script.now c.args.piece.now
 parsed c = ap lexemes c.as_slice.ensures.value ∙ c.in_ok-tokens.ensures
 

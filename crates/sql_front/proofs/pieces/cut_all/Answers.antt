@@ -27,7 +27,7 @@ tokens-preserved g c =
           (answer ∙ w.if-is_semicolon.false))
     ]
 
--- the cut of the tokens
+-- at the end the spans are the cut of all tokens
 done : (g : Over) (c : goal.Joined-start-tokens g) → AreCut (g.T.Lexed.lexeme c.args.script.now) c.args.tokens.now c.if-start-tokens.spans.items
 done g c =
     let f = g.T.Lexed.lexeme c.args.script.now in

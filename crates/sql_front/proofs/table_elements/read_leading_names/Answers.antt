@@ -34,7 +34,7 @@ names-init c =
       filled = omega (arith, ap length one);
     }
 
--- if one more name comes, only memory can fail
+-- if one more name follows, only memory can fail
 pub returns-in_err-expect-clause-value : goal.returns-in_err-expect-clause-value
 returns-in_err-expect-clause-value c =
     let p = err_from_is_err_and c.from_residual-in_err-expect.result c.from_residual-in_err-expect.ensures.1 in

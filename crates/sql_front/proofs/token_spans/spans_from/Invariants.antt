@@ -6,7 +6,7 @@ use Rattle.sql_statements.specs.Lexis.{TokensFrom, StopsFrom}
 use Rattle.sql_front.specs.TokenSpans.{span_of}
 use Rattle.sql_front.proofs.token_spans.spans_from.Given as goal
 
--- the places are those of tokens; whatever the rest has completes them
+-- the places are tokens' places; whatever tokens the rest has follow them
 abbrev pub invariant-tokens : goal.invariant-tokens
 invariant-tokens l = record {
   whole : l.at + length l.rest ≡ l.start + length l.text;

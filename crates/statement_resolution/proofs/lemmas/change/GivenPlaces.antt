@@ -204,7 +204,7 @@ same_values t list places row distinct placed =
     let at : 0 + j ≡ j = omega arith in
     same_value t list places row j x distinct placed here item ∙ ap (value_at places row) (sym at))
 
--- the columns of the period are there
+-- the columns of the period exist
 pub record PeriodThere (t : TableDef) : Type 0 where
   pub start : Column
   pub end : Column

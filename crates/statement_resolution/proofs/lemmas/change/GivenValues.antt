@@ -97,7 +97,7 @@ is_date_kind column.Date e = refl
 is_date_kind (column.RowStart p) e = absurd (false≢true e)
 is_date_kind (column.RowEnd p) e = absurd (false≢true e)
 
--- the column at the place, and what its name stands for
+-- the column at the place, and the place that its name gives
 pub record DateColumn (t : TableDef) (place : ℕ) : Type 0 where
   pub found : Column
   pub there : slice_get t.columns place ≡ Some found

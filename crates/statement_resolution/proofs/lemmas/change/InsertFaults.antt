@@ -14,7 +14,7 @@ use Rattle.catalog_core.specs.declared.table.TableDef.{TableDef}
 ascending : (tables : List TableDef) (i : InsertRows) → Ascending 0 (insert_conditions tables i)
 ascending tables i = (lit≤ tt, (lit≤ tt, (lit≤ tt, (lit≤ tt, (lit≤ tt, (lit≤ tt, (lit≤ tt, (lit≤ tt, tt))))))))
 
--- the table is missing
+-- an INSERT into a table that does not exist
 first_lacking : (tables : List TableDef) (i : InsertRows) → table_of_name tables i.table ≡ None → first_holding (insert_conditions tables i) ≡ Some UnknownTable
 unfolding lacks_table
 first_lacking tables i lacking = rw lacking refl
@@ -24,7 +24,7 @@ unfolding table_of_name
 table_least tables i lacking =
     first_least (insert_conditions tables i) UnknownTable (ascending tables i) (first_lacking tables i (ap (option_and_then (table_of tables)) lacking))
 
--- the table exists
+-- an INSERT into a table that exists
 found_conditions : (tables : List TableDef) (i : InsertRows) (t : TableDef) → table_of_name tables i.table ≡ Some t → insert_conditions tables i ≡ (UnknownTable, false) ∷ shape_conditions t i ++ value_conditions t i
 unfolding lacks_table
 found_conditions tables i t there = rw there refl

@@ -57,7 +57,7 @@ update_lacking : (tables : List TableDef) (u : Update) → table_of_name tables 
 unfolding lacks_named
 update_lacking tables u lacking = rw lacking refl
 
--- the table is missing
+-- an UPDATE of a table that does not exist
 pub update_least_table : (tables : List TableDef) (u : Update) → number_of tables u.table ≡ None → IsLeast (Holds (update_conditions tables u)) UnknownTable
 unfolding table_of_name
 update_least_table tables u lacking =
@@ -67,7 +67,7 @@ update_found : (tables : List TableDef) (u : Update) (t : TableDef) → table_of
 unfolding lacks_named
 update_found tables u t there = rw there refl
 
--- the table exists
+-- an UPDATE of a table that exists
 pub update_least : (tables : List TableDef) (u : Update) (t : TableDef) (refusal : Refusal) → table_of_name tables u.table ≡ Some t → first_holding (update_faults t u) ≡ Some refusal → IsLeast (Holds (update_conditions tables u)) refusal
 update_least tables u t refusal there fault =
     first_least (update_conditions tables u) refusal (update_ascending tables u) (update_found tables u t there ∙ fault)
@@ -85,7 +85,7 @@ delete_lacking : (tables : List TableDef) (d : Delete) → table_of_name tables 
 unfolding lacks_named
 delete_lacking tables d lacking = rw lacking refl
 
--- the table is missing
+-- a DELETE from a table that does not exist
 pub delete_least_table : (tables : List TableDef) (d : Delete) → number_of tables d.table ≡ None → IsLeast (Holds (delete_conditions tables d)) UnknownTable
 unfolding table_of_name
 delete_least_table tables d lacking =
@@ -95,7 +95,7 @@ delete_found : (tables : List TableDef) (d : Delete) (t : TableDef) → table_of
 unfolding lacks_named
 delete_found tables d t there = rw there refl
 
--- the table exists
+-- a DELETE from a table that exists
 pub delete_least : (tables : List TableDef) (d : Delete) (t : TableDef) (refusal : Refusal) → table_of_name tables d.table ≡ Some t → first_holding (delete_faults t d) ≡ Some refusal → IsLeast (Holds (delete_conditions tables d)) refusal
 delete_least tables d t refusal there fault =
     first_least (delete_conditions tables d) refusal (delete_ascending tables d) (delete_found tables d t there ∙ fault)

@@ -12,12 +12,12 @@ use Rattle.statement_resolution.specs.Flaws.{Flaw, TooLong, faults_of, has_test,
 use Rattle.statement_resolution.specs.query.Faults.{compare_faults, match_faults, side_faults}
 use Rattle.catalog_core.specs.declared.table.TableDef.{TableDef}
 
--- of the elements of a list
+-- the faults of the elements of a list are their flaws
 pub faults_of_any : {X : Type 0} (has : Flaw → X → Bool) (xs : List X) → faults_among (λ x. faults_of (λ flaw. has flaw x)) xs ≡ faults_of (λ flaw. list_any (has flaw) xs)
 faults_of_any has [] = refl
 faults_of_any has (x ∷ xs) = ap (either (faults_of (λ flaw. has flaw x))) (faults_of_any has xs)
 
--- of the tests of a condition
+-- the faults of the tests of a condition are their flaws
 pub where_flaws : {T : Type 0} (has : Flaw → T → Bool) (condition : Option (Condition T)) → where_faults (λ x. faults_of (λ flaw. has flaw x)) condition ≡ faults_of (λ flaw. has_test (has flaw) condition)
 where_flaws has None = refl
 where_flaws has (Some condition) = faults_of_any has (tests_of condition)
@@ -27,7 +27,7 @@ unfolding match_faults is_flawed_column
 side_flaws t (operand.Column r) = refl
 side_flaws t (operand.Literal value) = refl
 
--- of a comparison
+-- the faults of a comparison are its flaws
 pub compare_flaws : (t : TableDef) (c : Compare) → compare_faults (own_matches t) c ≡ faults_of (λ flaw. is_flawed_compare flaw t c)
 unfolding compare_faults is_flawed_compare
 compare_flaws t c = rw (side_flaws t c.left, side_flaws t c.right) refl

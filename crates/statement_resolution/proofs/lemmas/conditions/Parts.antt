@@ -11,7 +11,7 @@ use Rattle.statement_resolution.specs.Faults.{condition_faults, either, faults_a
 use Rattle.statement_resolution.specs.declared.faults.Faults.{Faults}
 
 module _ {T : Type 0} (f : T → Faults) where
-  -- of a condition of the program
+  -- the faults of a condition of the program
   abbrev pub faults_in : code.Tree T → Faults
   faults_in part = condition_faults f (plain_condition part)
 
@@ -21,7 +21,7 @@ module _ {T : Type 0} (f : T → Faults) where
       among_append f (tests_of (plain_condition part)) (tests_among (conditions_of (map plain_condition parts)))
       ∙ ap (either (faults_in part)) (of_parts parts)
 
-  -- of a chain of either operator
+  -- the parts of a chain of either operator
   pub chain_parts : (condition : code.Tree T) (first : Box (code.Tree T)) (others : Vec (code.Tree T))
       → (condition ≡ code.Or first others) ⊎ (condition ≡ code.And first others)
       → faults_in condition ≡ either (faults_in first.value) (faults_among faults_in others.items)

@@ -43,7 +43,7 @@ listed names row = insert (codes "DEP") (Some names) (row ∷ [])
 abbrev sound : List Value
 sound = day 1 ∷ day 2 ∷ five ∷ text (codes "AB") ∷ []
 
--- one row by a list in another order
+-- the names of one row's values in another order
 abbrev turned : List Name
 turned = codes "NAME" ∷ codes "DNO" ∷ codes "E" ∷ codes "S" ∷ []
 

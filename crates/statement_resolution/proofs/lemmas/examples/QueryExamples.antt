@@ -46,7 +46,7 @@ item c = record { column = c; new_name = None }
 abbrev table : Name → TableReference
 table name = record { table = name; window = None; new_name = None }
 
--- DEP by a new name
+-- the table DEP by a new name
 abbrev known_as : Name → TableReference
 known_as name = record { table = DEP; window = None; new_name = Some name }
 

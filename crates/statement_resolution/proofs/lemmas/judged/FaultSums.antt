@@ -64,7 +64,7 @@ among_more f xs i x before found here item same this =
     ∙ sym (among_push f (take i xs) (get_or xs i x))
     ∙ ap (faults_among f) (sym (take_more xs i x here))
 
--- after others
+-- the faults of one more element, after earlier faults
 pub among_after : {X : Type 0} (f : X → Faults) (first : Faults) (xs : List X) (i : ℕ) (x : X) (before found : Faults)
     → i < length xs → x ≡ get_or xs i x → before ≡ either first (faults_among f (take i xs)) → found ≡ f x
     → either before found ≡ either first (faults_among f (take (i + 1) xs))
@@ -88,7 +88,7 @@ part_among part f told [] = told.none
 part_among part f told (x ∷ xs) =
     told.both (f x) (faults_among f xs) ∙ ap (λ b. part (f x) || b) (part_among part f told xs)
 
--- of images, after others
+-- the faults of one more image, after earlier faults
 pub among_front : {X Y : Type 0} (f : Y → Faults) (g : X → Y) (first : Faults) (xs : List X) (i : ℕ) (x : X) (before found : Faults)
     → i < length xs → x ≡ get_or xs i x → before ≡ either first (faults_among f (map g (take i xs))) → found ≡ f (g x)
     → either before found ≡ either first (faults_among f (map g (take (i + 1) xs)))

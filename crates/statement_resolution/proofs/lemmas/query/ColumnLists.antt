@@ -14,7 +14,7 @@ use Rattle.catalog_core.specs.declared.table.TableDef.{TableDef}
 abbrev pub seen_as : Name → TableDef → ℕ × Column → SeenColumn
 seen_as known t c = record { known_as = known; table = t; place = c.0; column = c.1 }
 
--- the first so many
+-- the columns that are seen among the first ones of a table
 abbrev pub seen_front : Name → TableDef → List Column → ℕ → List SeenColumn
 seen_front known t xs i = map (seen_as known t) (take i (enumerate_from 0 xs))
 

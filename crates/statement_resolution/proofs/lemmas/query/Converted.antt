@@ -38,7 +38,7 @@ use Rattle.catalog_core.specs.declared.table.TableDef.{TableDef}
 -- ---- loops
 
 module _ (catalog : List TableDef) where
-  -- one more join
+  -- the members of the conditions of one more join
   pub joined_members : (before : List TableReference) (first : TableReference) (joins : List Join) (i : ℕ) (j : Join) (front slice : List SeenColumn) (old now after : List Placed)
       → i < length joins → j ≡ get_or joins i j → front ≡ seen_columns catalog before → slice ≡ seen_columns catalog (first ∷ join_tables (take (i + 1) joins))
       → now ≡ old ++ flat_map (scoped_members catalog) (chain_conditions before (first ∷ []) (map plain_join (take i joins)))
@@ -65,7 +65,7 @@ module _ (catalog : List TableDef) where
       ∙ append_assoc old (flat_map f done) (f this)
       ∙ ap (λ (ps : List Placed). old ++ ps) (sym longer)
 
-  -- one more chain
+  -- the members of the conditions of one more chain
   on_push : (before : List TableReference) (chains : List written.JoinChain) (c : written.JoinChain)
       → on_conditions before (chains ++ c ∷ []) ≡ on_conditions before chains ++ chain_conditions (before ++ flat_map chain_tables chains) (c.first ∷ []) c.joins
   on_push before [] c =
@@ -91,7 +91,7 @@ module _ (catalog : List TableDef) where
       ∙ ap (λ (x : JoinChain). flat_map f (on_conditions [] (map plain_chain (take i chains ++ x ∷ [])))) item
       ∙ ap (λ (cs : List JoinChain). flat_map f (on_conditions [] (map plain_chain cs))) (sym (take_more chains i c here))
 
-  -- WHERE
+  -- the members of WHERE
   pub where_members : (s : Select) (condition : Condition Compare) (columns : List SeenColumn) (now after : List Placed) → s.condition ≡ Some condition
       → now ≡ flat_map (scoped_members catalog) (on_conditions [] s.chains) → columns ≡ seen_columns catalog (tables_of s)
       → after ≡ now ++ placed_members (place_among [] columns) condition → after ≡ flat_map (scoped_members catalog) (conditions_in s)

@@ -43,7 +43,7 @@ kind_push (m ∷ ms) x = refl
 pub matched_push : (ms : List SeenColumn) (x : SeenColumn) → matched (ms ++ x ∷ []) ≡ matched_more (matched ms) x
 matched_push ms x = rw (kind_push ms x, several_push ms x, period_push ms x) refl
 
--- one more column, which is named or is not
+-- the matches among the columns so far, and one more
 pub named_more : (r : ColumnReference) (xs : List SeenColumn) (i : ℕ) (x : SeenColumn) (before after : Matched)
     → i < length xs → x ≡ get_or xs i x → names_column r x ≡ true → before ≡ matched (matches_among (take i xs) r) → after ≡ matched_more before x
     → after ≡ matched (matches_among (take (i + 1) xs) r)
@@ -67,7 +67,7 @@ unnamed_more r xs i x here item other =
     ∙ append-nil (filter p (take i xs)) in
     ap matched (sym same)
 
--- the faults of a name are those of its matches
+-- the faults of a name are the faults of its matches
 pub found_match : (ms : List SeenColumn) → found_faults (matched ms) ≡ match_faults ms
 unfolding match_faults is_matching
 found_match [] = refl

@@ -54,7 +54,7 @@ some_among holds (step ∷ steps) =
     list_any-append holds (selects_of (plain_query step.1)) (selects_among (steps_of (map plain_step steps)))
     ∙ ap (λ (b : Bool). list_any holds (selects_of (plain_query step.1)) || b) (some_among holds steps)
 
--- a test of some select
+-- a test of some select of a query
 abbrev pub some_of : (Select → Bool) → Written → Bool
 some_of holds query = list_any holds (selects_of (plain_query query))
 

@@ -30,7 +30,7 @@ tables_in chains = flat_map chain_tables (map plain_chain chains)
 abbrev pub front_tables : List JoinChain → ℕ → List TableReference
 front_tables chains i = tables_in (take i chains)
 
--- of the first joins of a chain
+-- the tables of the first joins of a chain
 abbrev pub join_tables : List Join → List TableReference
 join_tables joins = map (λ (j : written.Join). j.reference) (map plain_join joins)
 
@@ -75,7 +75,7 @@ pub any_map : {X Y : Type 0} (p : Y → Bool) (f : X → Y) (xs : List X) → li
 any_map p f [] = refl
 any_map p f (x ∷ xs) = ap (λ b. p (f x) || b) (any_map p f xs)
 
--- a reference that is borrowed
+-- a table reference that is borrowed
 abbrev pub Borrowed : Type 0
 Borrowed = Bor TableReference
 
@@ -112,7 +112,7 @@ missing_found catalog name number t numbered there = ap is_none (sym (table_name
 pub missing_none : (catalog : List TableDef) (name : Name) → number_of catalog name ≡ None → true ≡ is_none (table_of_name catalog name)
 missing_none catalog name none = ap is_none (sym (not_there catalog name none))
 
--- one more element, which fails
+-- one more element fails a test that no earlier one passes
 pub any_next : {X : Type 0} (p : X → Bool) (xs : List X) (i : ℕ) (x : X) → i < length xs → x ≡ get_or xs i x → list_any p (take i xs) ≡ false → p x ≡ false → list_any p (take (i + 1) xs) ≡ false
 any_next p xs i x here item none failing =
     let at : p (get_or xs i x) ≡ false = ap p (sym item) ∙ failing in
@@ -122,7 +122,7 @@ pub map_both : {X Y Z : Type 0} (f : Y → Z) (g : X → Y) (xs : List X) → ma
 map_both f g [] = refl
 map_both f g (x ∷ xs) = ap (λ zs. f (g x) ∷ zs) (map_both f g xs)
 
--- chains have tables
+-- chains name at least one table
 pub borrowed_filled : (rs : List Borrowed) (chains : List JoinChain) → map (λ (r : Borrowed). r.now) rs ≡ tables_in chains → 0 < length chains → 0 < length rs
 borrowed_filled rs [] same filled = absurd (omega (arith, filled))
 borrowed_filled [] (c ∷ chains) same filled = cc

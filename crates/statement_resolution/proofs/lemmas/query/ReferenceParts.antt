@@ -32,7 +32,7 @@ placed_more place (x ∷ rs) r placed here =
     and_parts true b e = (refl, e)
     and_parts false b e = cc
 
--- as many as were seen
+-- the references so far are as many as the elements seen
 pub parts_count : {X : Type 0} (f : X → ReferenceParts) (xs : List X) (i : ℕ) (rs : List QueryReference) → i ≤ length xs → map f (take i xs) ≡ map reference_parts rs → length rs ≡ i
 parts_count f xs i rs within same =
     omega (arith, ap length same, length-map (take i xs) f, length-map rs reference_parts, length-take-le i xs within)

@@ -45,7 +45,7 @@ module _ (catalog : List TableDef) where
   before_any before other seen (j ∷ joins) =
       ap (either (condition_faults (seen_columns catalog (seen ++ j.reference ∷ [])) j.condition)) (before_any before other (seen ++ j.reference ∷ []) joins)
 
-  -- of the first joins of a chain
+  -- the faults of the first joins of a chain
   abbrev pub join_faults : TableReference → List Join → Faults
   join_faults first joins = faults_among (scoped_faults catalog) (chain_conditions [] (first ∷ []) (map plain_join joins))
 
@@ -68,7 +68,7 @@ module _ (catalog : List TableDef) where
 
   -- ---- chains
 
-  -- of a chain
+  -- the faults of the conditions of a chain
   abbrev pub faults_on : written.JoinChain → Faults
   faults_on chain = faults_among (scoped_faults catalog) (chain_conditions [] (chain.first ∷ []) chain.joins)
 
@@ -147,6 +147,6 @@ select_sum catalog s tables before where_part items rest whole of_tables of_on o
     in_where None = refl
     in_where (Some condition) = sym (either_none (condition_faults (seen_columns catalog (tables_of s)) condition))
 
--- and the columns in front
+-- the first columns of a list are the ones before those of the last tables
 pub in_front : (old whole seen : List SeenColumn) (start : ℕ) → start ≡ length old → whole ≡ old ++ seen → take start whole ≡ old
 in_front old whole seen start at same = ap (λ n. take n whole) at ∙ ap (take (length old)) same ∙ take-append_seam old seen

@@ -48,7 +48,7 @@ place_found {X} p q xs i x n whole here item value named so_far =
     ∙ ap (option_map (λ k. n + k)) (position_first p x (filter q (drop (i + 1) xs)) named)
     ∙ ap (λ (k : ℕ). Some k) sum)
 
--- the element is another one
+-- the place of a value column after one more element with a value
 pub place_more : {X : Type 0} (p q : X → Bool) (xs : List X) (i : ℕ) (x : X) (n : ℕ) (whole : Option ℕ) → i < length xs → x ≡ get_or xs i x → q x ≡ true → p x ≡ false
     → whole ≡ place_from p q n (drop i xs) → whole ≡ place_from p q (n + 1) (drop (i + 1) xs)
 place_more p q xs i x n whole here item value other so_far =
@@ -56,14 +56,14 @@ place_more p q xs i x n whole here item value other so_far =
     ∙ ap (λ b. option_map (λ k. n + k) (position p (cond b (x ∷ filter q (drop (i + 1) xs)) (filter q (drop (i + 1) xs))))) value
     ∙ position_next n p x (filter q (drop (i + 1) xs)) other
 
--- the element has no value
+-- the place of a value column after one more element without a value
 pub place_passed : {X : Type 0} (p q : X → Bool) (xs : List X) (i : ℕ) (x : X) (n : ℕ) (whole : Option ℕ) → i < length xs → x ≡ get_or xs i x → q x ≡ false
     → whole ≡ place_from p q n (drop i xs) → whole ≡ place_from p q n (drop (i + 1) xs)
 place_passed p q xs i x n whole here item none so_far =
     so_far ∙ ap (place_from p q n) (drop_at xs i x here item)
     ∙ ap (λ b. option_map (λ k. n + k) (position p (cond b (x ∷ filter q (drop (i + 1) xs)) (filter q (drop (i + 1) xs))))) none
 
--- at the beginning and at the end
+-- the place of a value column at the beginning and at the end
 pub place_begun : {X : Type 0} (p q : X → Bool) (xs : List X) → position p (filter q xs) ≡ place_from p q 0 xs
 place_begun p q xs =
     by (position p (filter q xs))

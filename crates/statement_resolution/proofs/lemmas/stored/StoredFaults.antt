@@ -43,7 +43,7 @@ stored_lacking : (tables : List TableDef) (s : Stored) → table_of_name tables 
 unfolding lacks_named
 stored_lacking tables s lacking = rw lacking refl
 
--- the table is missing
+-- a stored query of a table that does not exist
 pub stored_least_table : (tables : List TableDef) (s : Stored) → number_of tables s.table ≡ None → IsLeast (Holds (stored_query_conditions tables s)) UnknownTable
 unfolding table_of_name
 stored_least_table tables s lacking =
@@ -53,7 +53,7 @@ stored_found : (tables : List TableDef) (s : Stored) (t : TableDef) → table_of
 unfolding lacks_named
 stored_found tables s t there = rw there refl
 
--- the table exists
+-- a stored query of a table that exists
 pub stored_least : (tables : List TableDef) (s : Stored) (t : TableDef) (refusal : Refusal) → table_of_name tables s.table ≡ Some t → first_holding (stored_faults t s) ≡ Some refusal → IsLeast (Holds (stored_query_conditions tables s)) refusal
 stored_least tables s t refusal there fault =
     first_least (stored_query_conditions tables s) refusal (stored_ascending tables s) (stored_found tables s t there ∙ fault)

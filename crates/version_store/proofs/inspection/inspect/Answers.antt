@@ -52,7 +52,7 @@ returns-clause-good g c clean on has =
     found_contents old own.0 own.1 c.check_rows.result
     (judged_good old c.deref-4.result.now c.deref-5.result.now c.in_ok-versions.versions.items pm pt pv has keys c.check_rows.result c.check_rows.ensures.good)
 
--- the versions read are those of whatever contents the database has
+-- the versions read are the versions of whatever contents the database has
 pub returns-clause-versions : goal.returns-clause-versions
 returns-clause-versions g c clean on =
     let old = (state g.S.Store c.args.connection.now).now in
@@ -97,7 +97,7 @@ returns-then-not-columns_there-clause-bad g c clean on has = λ _ _.
     let all = store_has_columns (state g.S.Store c.args.connection.now).now.schema has in
     never (sym c.if-not-columns_there.true ∙ c.columns_there.ensures ∙ all)
 
--- and no two of its versions are of one key
+-- no two versions of a good store have one key
 pub returns-then-repeat_key-clause-bad : goal.returns-then-repeat_key-clause-bad
 returns-then-repeat_key-clause-bad g c clean on has = λ _ good.
     let old = (state g.S.Store c.args.connection.now).now in

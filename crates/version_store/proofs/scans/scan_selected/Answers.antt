@@ -11,14 +11,14 @@ use Rattle.version_store.specs.StoreState.{IsFailure}
 use Rattle.version_store.specs.Units.{in_microseconds}
 use Rattle.version_store.proofs.scans.scan_selected.Goals as goal
 
--- no query
+-- the query could not be begun
 
 pub returns-in-Err-clause-visited : goal.returns-in-Err-clause-visited
 returns-in-Err-clause-visited g c clean d has chooses sure =
     let contents = in_microseconds c.args.form d in
     ([], chosen_of c.args.table chooses contents.versions, none_yet contents c.args.table chooses, refl, tt)
 
--- an error of the query
+-- an error as the query gives its next row
 
 pub returns-in-Err-to_next_row-clause-visited : goal.returns-in-Err-to_next_row-clause-visited
 returns-in-Err-to_next_row-clause-visited g c clean d has chooses sure =
@@ -40,7 +40,7 @@ returns-in-Err-to_next_row-clause-clean g c =
     let left : IsAfterQuery g.S.Store c.args.connection.now c.to_next_row.new.rows.conn.now = c.in-Err-to_next_row.ensures.left c.args.table selection c.args.connection.now was.0 was.1 in
     search rules
 
--- the end of the query
+-- the query has no more rows
 
 pub returns-in_default-get-clause-visited : goal.returns-in_default-get-clause-visited
 returns-in_default-get-clause-visited g c clean d has chooses sure =
@@ -71,7 +71,7 @@ returns-in_default-get-clause-clean g c =
     let left : IsAfterQuery g.S.Store c.args.connection.now now.conn.now = all.left in
     search rules
 
--- a row that is refused
+-- the visitor refuses a row
 
 pub returns-in-Err-visit_row-clause-visited : goal.returns-in-Err-visit_row-clause-visited
 returns-in-Err-visit_row-clause-visited g c clean d has chooses sure =
@@ -99,7 +99,7 @@ returns-in-Err-visit_row-clause-clean g c =
     let left : IsAfterQuery g.S.Store c.args.connection.now now.conn.now = on.left in
     search rules
 
--- a row more
+-- the visitor takes one row more
 
 pub rows-preserved : goal.rows-preserved
 rows-preserved g c =
@@ -123,7 +123,7 @@ returns-clause-visited g c clean d has chooses sure =
     let clean_now : HasCleanDisk (state g.S.Store c.rows.rows.conn.now) = search rules in
     some_visits g.S.Store c.args.form g.V.RowVisitor.next c.args.table selection c.args.connection.now c.rows.rows.conn.now _ _ _ Memory c.rows.invariant.visited refl clean_now d has chooses sure
 
--- why it is refused
+-- the reason of the visitor's refusal
 
 pub returns-in-Err-clause-why : goal.returns-in-Err-clause-why
 returns-in-Err-clause-why g c usable d has dated =
@@ -157,7 +157,7 @@ returns-in-Err-visit_row-clause-why g c usable d has dated =
     let readable = last_readable g.S.Store c.args.form g.V.RowVisitor.next c.args.table selection c.args.connection.now c.rows.rows.conn.now now.conn.now _ _ was c.in-Some.row.now _ gives some sure d has dated in
     elim (c.in-Err-visit_row.ensures.why readable.0 readable.2 readable.3 readable.1) [ inl own ↦ inl own | inr memory ↦ inr (inl memory) ]
 
--- faults
+-- faults of the database
 
 pub returns-in-Err-to_next_row-clause-faults : goal.returns-in-Err-to_next_row-clause-faults
 returns-in-Err-to_next_row-clause-faults g c =

@@ -11,7 +11,7 @@ use Rattle.catalog_core.proofs.query.fit.+next_place_in_query.Goals as goal
 abbrev refs : code.Query → List QueryReference
 refs query = references_of (plain_query query)
 
--- the result of the second part, as that of the whole
+-- the result of the second part is the result of the whole
 some_more
     : (place next bound : ℕ) (all xs ys : List QueryReference) (result : Option ℕ) → all ≡ xs ++ ys
     → (are_in_place place xs ≡ true) × (place + length xs ≡ next) × (next ≤ bound)

@@ -33,7 +33,7 @@ bytes_are : (n : ℤ) (date : List ℕ) (k us : ℕ) → IsDayText n date →
     ≡ date ++ codes " " ++ time_of_day_text k ++ fraction_text (six_digits us)
 bytes_are n date k us is = rw is.5 refl
 
--- the bytes of the day are those of its date
+-- the bytes of the day are the bytes of its date
 day_is_text : (c : goal.After-write_text) →
     (c.unwrap-day.result ≡ day_of_moment c.args.self)
     × IsDayText (day_of_moment c.args.self) c.write_text.new.text

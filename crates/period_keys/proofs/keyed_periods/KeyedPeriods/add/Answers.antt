@@ -12,7 +12,7 @@ use Rattle.period_keys.proofs.Answered.{on_err, on_ok}
 use Rattle.period_keys.proofs.Periods.{read, read_changed, read_moved, read_or, cond_same}
 use Rattle.period_keys.proofs.keyed_periods.KeyedPeriods.add.Goals as goal
 
--- the periods of an entry
+-- the periods of an entry of the index
 abbrev items_of : OrderedPeriods → List Period
 items_of periods = periods.items.items
 

@@ -18,7 +18,7 @@ use Rattle.period_keys.proofs.keyed_periods.KeyedPeriods.keys.Goals as goal
 pub loop-key-init : goal.loop-key-init
 loop-key-init c = ([], c.into_iter-key-iterator.ensures.into_iter_gives ∙ c.keys-key-items.ensures.rest, ap (map (λ (k : Bor (List Value)). k.now)) c.new-keys.ensures.items)
 
--- one key more, which is kept or is not
+-- one key more, which the list has or drops
 kept_more : (p : List Value → Bool) (done : List (List Value)) (key : List Value) (b : Bool) (was now : List (List Value)) → p key ≡ b → was ≡ filter p done → now ≡ was ++ cond b (key ∷ []) [] → now ≡ filter p (done ++ key ∷ [])
 kept_more p done key b was now passes before after =
     after ∙ ap (λ l. l ++ cond b (key ∷ []) []) before ∙ ap (λ v. filter p done ++ cond v (key ∷ []) []) (sym passes) ∙ sym (filter-append p done (key ∷ []))

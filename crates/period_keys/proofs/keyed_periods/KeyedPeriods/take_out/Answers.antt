@@ -10,7 +10,7 @@ use Rattle.period_keys.specs.declared.ordered_periods.OrderedPeriods.{OrderedPer
 use Rattle.period_keys.proofs.Periods.{read, read_changed, read_there, read_apart, cond_same}
 use Rattle.period_keys.proofs.keyed_periods.KeyedPeriods.take_out.Goals as goal
 
--- the periods of an entry
+-- the periods of an entry of the index
 abbrev items_of : OrderedPeriods → List Period
 items_of periods = periods.items.items
 

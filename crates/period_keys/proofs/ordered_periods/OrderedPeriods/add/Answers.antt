@@ -33,7 +33,7 @@ invariant_of-self-else-settles c =
     let left : AreRuns own.settled c.insert.new.self.items = subst (AreRuns own.settled) (sym put) (comes_late own.settled place p own.items.items x runs is fits) in
     record { within = left.within; ordered = left.ordered; late = left.late }
 
--- with the period at its place
+-- the periods with one more at its place are the old ones and it
 more : (old new : List Period) (place : ℕ) (x : Period) → new ≡ insert old place x → IsPermutation new (old ++ x ∷ [])
 more old new place x put = subst (λ (xs : List Period). IsPermutation xs (old ++ x ∷ [])) (sym put) (inserted old place x)
 

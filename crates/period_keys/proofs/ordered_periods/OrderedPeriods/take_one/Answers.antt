@@ -23,7 +23,7 @@ invariant_of-self-else-place-self c =
     subst (AreRuns own.settled) (sym c.remove-taken.ensures.items) (late_gone own.settled c.in-Some.place own.items.items runs (omega (arith, c.if-place-self.false)) there) in
     record { within = left.within; ordered = left.ordered; late = left.late }
 
--- without the one at the place
+-- the periods without the one at a place are the old ones but for it
 less : (old new : List Period) (place : ℕ) (x : Period) → new ≡ remove old place → (place < length old) × (get_or old place x ≡ x) → IsPermutation old (x ∷ new)
 less old new place x gone there = subst (λ rest. IsPermutation old (x ∷ rest)) (sym gone) (IsPermutation-remove old place x there.0 (sym there.1))
 

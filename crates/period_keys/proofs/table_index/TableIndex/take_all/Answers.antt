@@ -12,7 +12,7 @@ use Rattle.period_keys.specs.Versions.{version_key}
 use Rattle.period_keys.proofs.Partly.{each_after_taken, written_back}
 use Rattle.period_keys.proofs.table_index.TableIndex.take_all.Goals as goal
 
--- the keys of the rows are those of their versions
+-- the keys of the rows are the keys of their versions
 keys_same : (positions : List ℕ) (versions : List VersionRow) → map (key_values positions) (map row_of versions) ≡ map (version_key positions) versions
 keys_same positions [] = refl
 keys_same positions (v ∷ versions) = ap (λ (more : List (List Value)). version_key positions v ∷ more) (keys_same positions versions)

@@ -39,7 +39,7 @@ use Rattle.script_engine.proofs.Refused.{by_fault}
 use Rattle.script_engine.proofs.Steps.{tables_of}
 use Rattle.script_engine.proofs.engine.Engine.create.Goals as goal
 
--- a table without rows
+-- the rows of a new table: none
 abbrev without_rows : TableDef → RowsByKey
 without_rows definition = record { positions = key_positions definition; rows = [] }
 

@@ -121,7 +121,7 @@ returns-in-Err-clause-bad g c = λ usable bad.
     let was = c.in-Err.ensures.bad usable bad in
     (was.0, λ good. was.1 (other_points good))
 
--- nor is one of which point 6 does not hold
+-- a store of which point 6 does not hold is no good one
 pub returns-in-Err-load_lawful-clause-bad : goal.returns-in-Err-load_lawful-clause-bad
 returns-in-Err-load_lawful-clause-bad g c = λ handed bad.
     let before = subst (IsUsable g.S.Store) c.refuse.ensures.same handed in
@@ -179,7 +179,7 @@ returns-in-Err-load_lawful-clause-why g c = λ handed good movable rowids.
     let its = read_of g.S.Store c.in-Ok.found.0 c.catalog.result.now c.in-Ok.found.1.items d c.catalog.ensures stored (c.in-Ok.ensures.versions before five.form five.contents has) (good_tables five) in
     inl (c.in-Err-load_lawful.ensures.why d its (good_and_lawful good) (sym (c.clock-clock.ensures ∙ stored.clock)))
 
--- one of form 2 is accepted, and one of form 1 is moved
+-- a store of form 2 is accepted, and one of form 1 is moved
 pub returns-in-Err-accept-clause-why : goal.returns-in-Err-accept-clause-why
 returns-in-Err-accept-clause-why g c = λ usable good movable rowids.
     let before = c.in-Err-accept.ensures.was_usable usable in

@@ -43,7 +43,7 @@ returns-in-Ok-clause-accepted g c = λ usable d stands.
     let made = c.in-Ok.ensures.made usable.0 (written_in Seconds was.counted) (are_seconds g.S.Store _ d was) was.now.rows in
     record { now = has_moved old new was.counted d was.same was.now made.0; committed = made.1; catalog = was.catalog; clock = was.clock; dated = was.dated }
 
--- with what keys and references ask it is good: while its connection is open, no two rows share a key
+-- a store whose keys and references hold is good: while its connection is open, no two rows share a key
 
 pub returns-in-Microseconds-clause-good : goal.returns-in-Microseconds-clause-good
 returns-in-Microseconds-clause-good g c = λ usable test d stands good.
