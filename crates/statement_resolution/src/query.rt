@@ -2,12 +2,11 @@
 
 pub mod conversion;
 pub mod query_conversion;
-pub mod query_faults;
 pub mod query_parts;
 pub mod references;
 pub mod resolution;
 pub mod scope;
 pub mod seen;
 pub mod seen_column;
-pub mod select_checks;
 pub mod select_conversion;
+pub mod sides;

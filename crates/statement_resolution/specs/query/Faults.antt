@@ -122,13 +122,14 @@ select_faults catalog select =
     (either (faults_among (scoped_faults catalog) (conditions_in select))
     (faults_among (item_faults (seen_columns catalog (tables_of select))) select.items))
 
+-- the kinds of items, among the columns that are seen
+abbrev pub item_kinds : List SeenColumn → List SelectItem → List (Option ValueKind)
+item_kinds columns items =
+    map (λ (item : SelectItem). match_kind (matches_among columns item.column)) items
+
 -- the kinds of a select's columns
 abbrev pub side_kinds : List TableDef → Select → List (Option ValueKind)
-side_kinds catalog select =
-    map
-    (λ (item : SelectItem).
-    match_kind (matches_among (seen_columns catalog (tables_of select)) item.column))
-    select.items
+side_kinds catalog select = item_kinds (seen_columns catalog (tables_of select)) select.items
 
 -- some columns in the same place are of two kinds
 abbrev pub differ_somewhere : List (Option ValueKind) → List (Option ValueKind) → Bool

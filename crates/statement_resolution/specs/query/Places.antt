@@ -1,21 +1,34 @@
--- For private functions: a select by positions, where a name without a position has 0. No query
--- that is accepted has such a name.
-use Rattle.std.specs.Prelude.{◌+◌, ◌||◌, ◌∷◌, ℕ, Bool, List, [], Option, Some, filter, length, map}
-use Rattle.std.specs.List.{position}
+-- For private functions: a query by positions, where a name without a position has 0, and so has a
+-- table that is missing. No query that is accepted has such a name.
+use Rattle.std.specs.Prelude.{◌≡◌, ◌+◌, ◌||◌, ◌∷◌, ℕ, Bool, false, true, List, [], Option, None}
+use Rattle.std.specs.Prelude.{Some, filter, length, map}
+use Rattle.std.specs.List.{list_any, position}
 use Rattle.std.specs.Option.{option_map}
+use Rattle.sql_statements.specs.Trees as written
 use Rattle.sql_statements.specs.Trees.{Condition, Select}
 use Rattle.sql_statements.specs.declared.statement.ColumnReference.{ColumnReference}
 use Rattle.sql_statements.specs.declared.statement.Compare.{Compare}
 use Rattle.sql_statements.specs.declared.statement.SelectItem.{SelectItem}
+use Rattle.sql_statements.specs.declared.statement.TableReference.{TableReference}
+use Rattle.statement_resolution.specs.Faults.{either}
 use Rattle.statement_resolution.specs.Positions.{map_condition}
 use Rattle.statement_resolution.specs.Placing.{or_zero, place_compare}
-use Rattle.statement_resolution.specs.query.Faults.{select_faults}
-use Rattle.statement_resolution.specs.query.Resolving.{Placed, column_position, members}
+use Rattle.statement_resolution.specs.SystemWindows.{window_of}
+use Rattle.statement_resolution.specs.query.Faults.{query_faults, select_faults, side_kinds}
+use Rattle.statement_resolution.specs.query.QueryParts.{first_select, selects_of}
+use Rattle.statement_resolution.specs.query.Resolving.{Placed, ReferenceParts, ResolvesTree}
+use Rattle.statement_resolution.specs.query.Resolving.{column_position, members, value_kinds}
 use Rattle.statement_resolution.specs.query.Scopes.{Scope, ScopedCondition, SeenColumn, has_value}
+use Rattle.catalog_core.specs.query.Fitting.{are_in_place}
+use Rattle.catalog_core.specs.query.Queries.{plain_query, references_of}
 use Rattle.catalog_core.specs.table.Naming.{name_or}
 use Rattle.statement_resolution.specs.query.Scopes.{names_column, tables_of}
 use Rattle.catalog_core.specs.table.Naming.{Name}
+use Rattle.catalog_core.specs.table.TableWords.{number_of, table_of_name}
+use Rattle.statement_resolution.specs.declared.faults.Faults.{Faults}
+use Rattle.statement_resolution.specs.declared.query.sides.Side.{Side}
 use Rattle.catalog_core.specs.declared.table.TableDef.{TableDef}
+use Rattle.catalog_core.specs.declared.table.ValueKind.{ValueKind}
 
 -- the columns that rows have a value for
 abbrev pub values_among : List SeenColumn → List SeenColumn
@@ -45,7 +58,20 @@ scoped_members catalog c = placed_members (scope_place catalog c.0) c.1
 abbrev pub placed_item : (ColumnReference → ℕ) → SelectItem → Option ℕ × Name
 placed_item place item = (Some (place item.column), name_or item.new_name item.column.name)
 
--- ---- the faults that a query may not have before it is written by positions
+-- the kinds of a table's values, and none of a table that is missing
+abbrev pub kinds_of : Option TableDef → List ValueKind
+kinds_of None = []
+kinds_of (Some table) = value_kinds table
+
+-- a table reference by its table's number
+abbrev pub placed_reference : List TableDef → TableReference → ReferenceParts
+placed_reference catalog r = (
+  Some (or_zero (number_of catalog r.table)),
+  window_of r.window,
+  Some (kinds_of (table_of_name catalog r.table)),
+)
+
+-- ---- a query by positions, and its faults
 
 -- a select lacks a table, or names a column wrongly
 abbrev pub is_refused : List TableDef → Select → Bool
@@ -57,3 +83,21 @@ is_refused catalog select =
 abbrev pub table_count : List Select → ℕ
 table_count [] = 0
 table_count (select ∷ selects) = length (tables_of select) + table_count selects
+
+-- a side is the query by positions, if nothing is wrong with its names; its references have the
+-- places from one up to another, and the query's faults are added to those before
+pub record Converts
+    (catalog : List TableDef)
+    (query : written.Query)
+    (place next : ℕ)
+    (before after : Faults)
+    (side : Side)
+    : Type 0
+  where
+    pub same : list_any (is_refused catalog) (selects_of query) ≡ false
+        → ResolvesTree catalog query (plain_query side.query)
+    pub placed : are_in_place place (references_of (plain_query side.query)) ≡ true
+    pub counted : place + length (references_of (plain_query side.query)) ≡ next
+    pub tables : next ≡ place + table_count (selects_of query)
+    pub kinds : side.kinds.items ≡ side_kinds catalog (first_select query)
+    pub faults : after ≡ either before (query_faults catalog query)

@@ -1,20 +1,22 @@
-//! The parts of an accepted select, with positions in place of names.
+//! The parts of a select, with positions in place of names, and their faults.
 
-ghost use Rattle.std.specs.Prelude.{◌≡◌, ◌++◌, ◌+◌, ◌<◌, ◌∷◌, IfOk, false, length};
+ghost use Rattle.std.specs.Prelude.{◌≡◌, ◌++◌, ◌+◌, ◌<◌, ◌∷◌, [], IfOk, length};
 ghost use Rattle.std.specs.Prelude.{map, true};
 ghost use Rattle.sql_statements.specs.Plain.{plain_condition};
-ghost use Rattle.statement_resolution.specs.query.Faults.{lacks_one, lacks_any};
+ghost use Rattle.statement_resolution.specs.Faults.{either, faults_among};
+ghost use Rattle.statement_resolution.specs.query.Faults as judged;
 ghost use Rattle.catalog_core.specs.query.Fitting.{are_in_place};
 ghost use Rattle.statement_resolution.specs.query.Places.{place_among, placed_item, placed_members};
+ghost use Rattle.statement_resolution.specs.query.Places.{placed_reference};
 ghost use Rattle.statement_resolution.specs.query.Resolving as words;
 ghost use Rattle.statement_resolution.specs.query.Resolving.{conjunct_parts, members};
 ghost use Rattle.statement_resolution.specs.query.Resolving.{reference_parts};
-ghost use Rattle.statement_resolution.specs.query.Resolving.{written_reference};
 ghost use Rattle.catalog_core.specs.query.Selection.{item_parts};
 
 use crate::comparison::ColumnNames;
+use crate::faults::Faults;
 use crate::query::scope::Scope;
-use crate::resolver::resolve_condition;
+use crate::resolver::{condition_faults, resolve_condition};
 use crate::system_window::window_of;
 use catalog_core::resolved::QueryReference;
 use catalog_core::{
@@ -44,38 +46,53 @@ fn outer_and(condition: &Tree<Compare>) -> (&Tree<Compare>, &[Tree<Compare>])
     }
 }
 
-/// Adds the members of a condition's outermost AND.
+/// Adds the members of a condition's outermost AND, and the condition's faults.
 pub fn push_members(
     alloc: Global,
     scope: &Scope<'_>,
     condition: &Tree<Compare>,
     conjuncts: &mut Vec<Cond>,
+    faults: &mut Faults,
 ) -> Result<(), Memory>
-    ensures { IfOk result (λ _. map conjunct_parts conjuncts.new.items
+    ensures placed { IfOk result (λ _. map conjunct_parts conjuncts.new.items
         ≡ map conjunct_parts conjuncts.old.items
         ++ placed_members (place_among scope.now.before.now scope.now.seen.now)
         (plain_condition condition.now)) }
+    ensures faults { IfOk result (λ _. faults.new ≡ either faults.old
+        (judged.condition_faults scope.now.seen.now (plain_condition condition.now))) }
 {
     let (first, others) = outer_and(condition);
     conjuncts.push(resolve_condition(alloc, scope, first)?)?;
     for part in others {
         conjuncts.push(resolve_condition(alloc, scope, part)?)?;
     }
+    *faults = faults.or(condition_faults(scope, condition));
     Ok(())
 }
 
-/// The items by positions, with their names.
+/// The items by positions, with their names. The kinds of their columns are added to none, and
+/// their faults to those found so far.
 pub fn convert_items(
     alloc: Global,
     scope: &Scope<'_>,
     items: &[SelectItem],
+    kinds: &mut Vec<Option<ValueKind>>,
+    faults: &mut Faults,
 ) -> Result<Vec<AnswerColumn>, Memory>
-    ensures { IfOk result (λ numbered.
+    requires { kinds.old.items ≡ [] }
+    ensures numbered { IfOk result (λ numbered.
         map (placed_item (place_among scope.now.before.now scope.now.seen.now)) items.now
         ≡ map item_parts numbered.items) }
+    ensures kinds { IfOk result
+        (λ _. kinds.new.items ≡ judged.item_kinds scope.now.seen.now items.now) }
+    ensures faults { IfOk result (λ _. faults.new ≡ either faults.old
+        (faults_among (judged.item_faults scope.now.seen.now) items.now)) }
 {
     let mut numbered = Vec::with_capacity(alloc, items.len())?;
     for item in items {
+        let found = scope.look_up(&item.column);
+        kinds.push(found.kind)?;
+        *faults = faults.or(found.faults());
         let position = scope.position(&item.column);
         let name = name_or(&item.new_name, &item.column.name).copy(alloc)?;
         numbered.push(AnswerColumn { position, name })?;
@@ -98,41 +115,45 @@ fn value_kinds(alloc: Global, table: &TableDef) -> Result<Vec<ValueKind>, Memory
     Ok(kinds)
 }
 
-/// A reference to a table that exists, by the table's number.
+/// A reference by its table's number: 0 for a table that is missing, as in no accepted query.
 fn convert_reference(
     alloc: Global,
     catalog: &Catalog,
     reference: &TableReference,
     place: usize,
 ) -> Result<QueryReference, Memory>
-    requires { lacks_one catalog.now.tables reference.now ≡ false }
     ensures parts { IfOk result (λ numbered.
-        written_reference catalog.now.tables reference.now ≡ reference_parts numbered) }
+        placed_reference catalog.now.tables reference.now ≡ reference_parts numbered) }
     ensures placed { IfOk result (λ numbered. numbered.place ≡ place) }
 {
+    let window = window_of(&reference.window);
     let Some((number, table)) = catalog.table_named(&reference.table) else {
-        unreachable!()
+        return Ok(QueryReference {
+            place,
+            table: 0,
+            window,
+            kinds: Items::empty(alloc),
+        });
     };
     let kinds = value_kinds(alloc, table)?;
     Ok(QueryReference {
         place,
         table: number,
-        window: window_of(&reference.window),
+        window,
         kinds: Items::from_vec(kinds),
     })
 }
 
-/// References to tables that exist. Their places count up from this one.
+/// References by their tables' numbers. Their places count up from this one.
 pub fn convert_references(
     alloc: Global,
     catalog: &Catalog,
     references: &[&TableReference],
     place: usize,
 ) -> Result<Vec<QueryReference>, Memory>
-    requires there { lacks_any catalog.now.tables (map (λ r. r.now) references.now) ≡ false }
-    requires room { place + length references.now < 1_000 }
+    requires { place + length references.now < 1_000 }
     ensures parts { IfOk result (λ numbered.
-        map (written_reference catalog.now.tables) (map (λ r. r.now) references.now)
+        map (placed_reference catalog.now.tables) (map (λ r. r.now) references.now)
         ≡ map reference_parts numbered.items) }
     ensures placed { IfOk result (λ numbered. are_in_place place numbered.items ≡ true) }
 {

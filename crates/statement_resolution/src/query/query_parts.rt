@@ -1,12 +1,10 @@
-//! The parts of a sequenced query as it is written: its limits, and its first select, which names
-//! the columns.
+//! The limits of a sequenced query as it is written.
 
 ghost use Rattle.std.specs.Prelude.{◌≡◌, ◌+◌, ◌<◌, IfNone, IfSome, flat_map, length, map};
 ghost use Rattle.std.specs.Prelude.{nat_lt};
 ghost use Rattle.std.specs.List.{list_any};
 ghost use Rattle.sql_statements.specs.Plain.{plain_chain, plain_query, plain_select};
 ghost use Rattle.statement_resolution.specs.Limits.{most_select_tables};
-ghost use Rattle.statement_resolution.specs.query.QueryParts as parts;
 ghost use Rattle.statement_resolution.specs.query.QueryParts.{operator_count, selects_of};
 ghost use Rattle.statement_resolution.specs.query.Refusals as refusals;
 ghost use Rattle.statement_resolution.specs.query.Scopes.{chain_tables};
@@ -78,14 +76,4 @@ pub fn is_above_limit(query: &QueryTree<SelectDistinct>) -> bool
     ensures { result ≡ refusals.is_above_limit (plain_query query.now) }
 {
     operators_left(query, MOST_OPERATORS).is_none() || has_long_select(query)
-}
-
-/// The first select.
-pub fn first_select(query: &QueryTree<SelectDistinct>) -> &SelectDistinct
-    ensures { plain_select result.now ≡ parts.first_select (plain_query query.now) }
-{
-    match query {
-        QueryTree::Select(select) => select,
-        QueryTree::Combined(first, _) => first_select(first),
-    }
 }

@@ -1,11 +1,13 @@
-//! The table references of a select, in the order of the text.
+//! The table references of a select, in the order of the text, and their faults.
 
 ghost use Rattle.std.specs.Prelude.{◌≡◌, ◌<◌, ◌++◌, IfOk, is_none, length, map};
 ghost use Rattle.sql_statements.specs.Plain.{plain_chain, plain_select};
 ghost use Rattle.statement_resolution.specs.query.Faults.{known_twice, lacks_any};
+ghost use Rattle.statement_resolution.specs.query.Faults.{reference_faults};
 ghost use Rattle.statement_resolution.specs.query.Scopes.{chain_tables, tables_of};
 ghost use Rattle.catalog_core.specs.table.TableWords.{table_of_name};
 
+use crate::faults::Faults;
 use catalog_core::{Catalog, MatchCount, known_name, matches_among};
 use period_core::Memory;
 use sql_statements::{JoinChain, SelectDistinct, TableReference};
@@ -50,7 +52,7 @@ fn is_missing(catalog: &Catalog, reference: &TableReference) -> bool
 }
 
 /// Whether one of their tables is missing.
-pub fn lacks_table(catalog: &Catalog, references: &[&TableReference]) -> bool
+fn lacks_table(catalog: &Catalog, references: &[&TableReference]) -> bool
     ensures { result ≡ lacks_any catalog.now.tables (map (λ r. r.now) references.now) }
 {
     for reference in references {
@@ -62,7 +64,7 @@ pub fn lacks_table(catalog: &Catalog, references: &[&TableReference]) -> bool
 }
 
 /// Whether two of them are known by one name.
-pub fn names_twice(references: &[&TableReference]) -> bool
+fn names_twice(references: &[&TableReference]) -> bool
     ensures { result ≡ known_twice (map (λ r. r.now) references.now) }
 {
     for reference in references {
@@ -71,4 +73,15 @@ pub fn names_twice(references: &[&TableReference]) -> bool
         }
     }
     false
+}
+
+/// The faults of the tables of a select.
+pub fn table_faults(catalog: &Catalog, references: &[&TableReference]) -> Faults
+    ensures { result ≡ reference_faults catalog.now.tables (map (λ r. r.now) references.now) }
+{
+    Faults {
+        table: lacks_table(catalog, references),
+        twice: names_twice(references),
+        ..Faults::none()
+    }
 }

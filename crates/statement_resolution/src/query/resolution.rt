@@ -9,8 +9,9 @@ ghost use Rattle.catalog_core.specs.query.Queries as resolved;
 ghost use Rattle.statement_resolution.specs.query.Resolving.{IsSequenced, ResolvesQuery};
 ghost use Rattle.statement_resolution.specs.query.Resolving.{query_conditions};
 
+use crate::faults::Faults;
 use crate::query::query_conversion::convert_query;
-use crate::query::query_faults::query_fault;
+use crate::query::query_parts::is_above_limit;
 use catalog_core::Catalog;
 use catalog_core::resolved::Query;
 use period_core::Refusal;
@@ -31,11 +32,16 @@ pub fn resolve_sequenced(
     ensures refused { IfErr result (MayAnswer (Holds
         (query_conditions catalog.now.tables (sequenced (plain_query query.now))))) }
 {
-    if let Some(fault) = query_fault(alloc, catalog, query)? {
-        return Err(fault);
+    if is_above_limit(query) {
+        return Err(Refusal::LimitReached);
     }
     let mut place = 0;
-    Ok(convert_query(alloc, catalog, query, &mut place)?)
+    let mut faults = Faults::none();
+    let side = convert_query(alloc, catalog, query, &mut place, &mut faults)?;
+    match faults.first() {
+        Some(fault) => Err(fault),
+        None => Ok(side.query),
+    }
 }
 
 /// The query that a statement asks, with positions for names, as `resolve_sequenced` gives it. The

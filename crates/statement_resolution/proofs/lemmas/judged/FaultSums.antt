@@ -13,6 +13,12 @@ or_none : (a : Bool) → (a || false) ≡ a
 or_none true = refl
 or_none false = refl
 
+or_crossed : (a b c d : Bool) → ((a || b) || (c || d)) ≡ ((a || c) || (b || d))
+or_crossed true b c d = refl
+or_crossed false true true d = refl
+or_crossed false true false d = refl
+or_crossed false false c d = refl
+
 pub either_assoc : (f g h : Faults) → either (either f g) h ≡ either f (either g h)
 either_assoc f g h =
     rw (
@@ -40,6 +46,27 @@ either_none f =
       or_none f.long,
       or_none f.empty,
     ) refl
+
+pub either_crossed : (f g h k : Faults) → either (either f g) (either h k) ≡ either (either f h) (either g k)
+either_crossed f g h k =
+    rw (
+      or_crossed f.table g.table h.table k.table,
+      or_crossed f.unknown g.unknown h.unknown k.unknown,
+      or_crossed f.ambiguous g.ambiguous h.ambiguous k.ambiguous,
+      or_crossed f.twice g.twice h.twice k.twice,
+      or_crossed f.period g.period h.period k.period,
+      or_crossed f.count g.count h.count k.count,
+      or_crossed f.kinds g.kinds h.kinds k.kinds,
+      or_crossed f.long g.long h.long k.long,
+      or_crossed f.empty g.empty h.empty k.empty,
+    ) refl
+
+pub either_turned : (f g h : Faults) → either (either f g) h ≡ either f (either h g)
+either_turned f g h =
+    ap (either (either f g)) (sym (either_none h))
+    ∙ either_crossed f g h no_faults
+    ∙ ap (either (either f h)) (either_none g)
+    ∙ either_assoc f h g
 
 pub among_append : {X : Type 0} (f : X → Faults) (xs ys : List X) → faults_among f (xs ++ ys) ≡ either (faults_among f xs) (faults_among f ys)
 among_append f [] ys = refl

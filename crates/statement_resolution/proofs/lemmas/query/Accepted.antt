@@ -23,7 +23,7 @@ use Rattle.catalog_core.specs.query.Queries.{Query, both}
 use Rattle.statement_resolution.specs.Faults.{faults_among}
 use Rattle.statement_resolution.specs.query.Faults.{operand_faults, query_faults, select_faults}
 use Rattle.statement_resolution.specs.query.QueryParts.{operator_count, operator_count_among, selects_among, selects_of, sides_of}
-use Rattle.statement_resolution.specs.query.Refusals.{is_too_long, refusals_of}
+use Rattle.statement_resolution.specs.query.Refusals.{is_above_limit, is_too_long, refusals_of}
 use Rattle.statement_resolution.specs.query.Resolving.{ResolvesSteps, ResolvesTree}
 use Rattle.statement_resolution.specs.query.Scopes.{tables_of}
 use Rattle.statement_resolution.specs.declared.faults.Faults.{Faults}
@@ -78,13 +78,12 @@ module _ (catalog : List TableDef) where
       (sym (list_any-append p (selects_of (plain_query s.1)) (selects_among (rest_of steps (i + 1))))
       ∙ sym (ap (λ (ss : Steps). list_any p (selects_among ss)) (rest_at steps i s here item)) ∙ sound)
 
-  pub sound_one : (query : Written) (s : SelectDistinct) → query ≡ code.Select s → list_any (is_refused catalog) (selects_of (plain_query query)) ≡ false
-      → ((select_faults catalog (plain_select s)).table ≡ false) × ((select_faults catalog (plain_select s)).unknown ≡ false) × ((select_faults catalog (plain_select s)).period ≡ false)
-  sound_one query s is sound =
-      let p : Select → Bool = is_refused catalog in
-      let one = or_parts (p (plain_select s)) false (sym (ap (λ (w : written.Query). list_any p (selects_of w)) (ap plain_query is ∙ simple_view s)) ∙ sound) in
-      let first = or_parts (select_faults catalog (plain_select s)).table _ one.0 in
-      let second = or_parts (select_faults catalog (plain_select s)).unknown (select_faults catalog (plain_select s)).period first.1 in
+  pub sound_one : (s : Select) → list_any (is_refused catalog) (s ∷ []) ≡ false
+      → ((select_faults catalog s).table ≡ false) × ((select_faults catalog s).unknown ≡ false) × ((select_faults catalog s).period ≡ false)
+  sound_one s sound =
+      let one = or_parts (is_refused catalog s) false sound in
+      let first = or_parts (select_faults catalog s).table _ one.0 in
+      let second = or_parts (select_faults catalog s).unknown (select_faults catalog s).period first.1 in
       (first.0, second.0, second.1)
 
 -- ---- the number of tables
@@ -158,10 +157,9 @@ nothing_refused catalog query none =
     (no_select (λ f. f.unknown) (record { none = refl; both = λ f g. refl }) catalog query tests.1.1.0)
     (no_select (λ f. f.period) (record { none = refl; both = λ f g. refl }) catalog query tests.1.1.1.1.1.0)
 
-pub few_references : (catalog : List TableDef) (query : written.Query) → NoneApplies (Holds (refusals_of catalog query)) → 0 + table_count (selects_of query) < 1000
-few_references catalog query none =
-    let tests = are_false (refusals_of catalog query) none in
-    let limits = or_parts (nat_lt most_operators (operator_count query)) (list_any is_too_long (selects_of query)) tests.0 in
+pub few_references : (query : written.Query) → is_above_limit query ≡ false → 0 + table_count (selects_of query) < 1000
+few_references query few_parts =
+    let limits = or_parts (nat_lt most_operators (operator_count query)) (list_any is_too_long (selects_of query)) few_parts in
     let operators : nat_lt 16 (operator_count query) ≡ false = limits.0 in
     let few : operator_count query ≤ 16 = grind (arith, nat_tests) in
     omega (arith, few, count_within (selects_of query) limits.1, selects_within query)

@@ -19,14 +19,15 @@ use Rattle.sql_statements.specs.declared.statement.TableReference.{TableReferenc
 use Rattle.statement_resolution.proofs.lemmas.conditions.Numbers.{agree as replaced, none_of}
 use Rattle.statement_resolution.proofs.lemmas.judged.FaultSums.{IsPart, part_among}
 use Rattle.statement_resolution.proofs.lemmas.query.ReferenceLists.{front_tables, join_tables, join_tables_more}
+use Rattle.statement_resolution.proofs.lemmas.query.ReferenceParts.{found_parts}
 use Rattle.statement_resolution.proofs.lemmas.query.ScopeFaults.{conditions_push, joined_scope}
 use Rattle.statement_resolution.proofs.lemmas.query.ValuePlaces.{some_value}
 use Rattle.statement_resolution.specs.Positions.{compare_by, map_condition, side_by}
 use Rattle.statement_resolution.specs.Placing.{or_zero, place_compare, place_side}
 use Rattle.statement_resolution.specs.Faults.{either, faults_among}
-use Rattle.statement_resolution.specs.query.Faults.{compare_faults, item_faults, match_faults, matches_among, reference_faults, scoped_faults, select_faults, side_faults}
-use Rattle.statement_resolution.specs.query.Places.{place_among, placed_item, placed_members, scope_place, scoped_members}
-use Rattle.statement_resolution.specs.query.Resolving.{Placed, column_position, list_of, members, seen_values, written_item, written_conjuncts, written_members}
+use Rattle.statement_resolution.specs.query.Faults.{compare_faults, item_faults, lacks_any, lacks_one, match_faults, matches_among, reference_faults, scoped_faults, select_faults, side_faults}
+use Rattle.statement_resolution.specs.query.Places.{place_among, placed_item, placed_members, placed_reference, scope_place, scoped_members}
+use Rattle.statement_resolution.specs.query.Resolving.{Placed, ReferenceParts, column_position, list_of, members, seen_values, written_item, written_conjuncts, written_members, written_reference}
 use Rattle.catalog_core.specs.Conditions.{tests_among, tests_of}
 use Rattle.statement_resolution.specs.query.Scopes.{Scope, ScopedCondition, SeenColumn, chain_conditions, chain_tables, conditions_in, has_value, names_column, on_conditions, seen_columns, tables_of, where_conditions, whole_scope}
 use Rattle.catalog_core.specs.table.Naming.{name_or}
@@ -201,6 +202,13 @@ module _ (catalog : List TableDef) where
       ap (λ (o : Option ℕ). (o, name_or item.new_name item.column.name) ∷ map (written_item catalog s) items) (position_there catalog (whole_scope s) item.column first.0 second.0)
       ∙ ap (λ (ps : List (Option ℕ × Name)). placed_item (scope_place catalog (whole_scope s)) item ∷ ps) (items_agree s items first.1 second.1)
 
+  references_agree : (rs : List TableReference) → lacks_any catalog rs ≡ false → map (written_reference catalog) rs ≡ map (placed_reference catalog) rs
+  references_agree [] there = refl
+  references_agree (r ∷ rs) there =
+      let parts = or_parts (lacks_one catalog r) (lacks_any catalog rs) there in
+      ap (λ (p : ReferenceParts). p ∷ map (written_reference catalog) rs) (found_parts catalog r parts.0)
+      ∙ ap (λ (ps : List ReferenceParts). placed_reference catalog r ∷ ps) (references_agree rs parts.1)
+
   -- a fault that the select has not, none of its conditions and none of its items has
   no_parts : (part : Faults → Bool) → IsPart part → (s : Select) → part (select_faults catalog s) ≡ false
       → (list_any (λ c. part (scoped_faults catalog c)) (conditions_in s) ≡ false) × (list_any (λ item. part (item_faults (seen_columns catalog (tables_of s)) item)) s.items ≡ false)
@@ -221,3 +229,7 @@ module _ (catalog : List TableDef) where
   pub accepted_items : (s : Select) → (select_faults catalog s).unknown ≡ false → (select_faults catalog s).period ≡ false → map (written_item catalog s) s.items ≡ map (placed_item (scope_place catalog (whole_scope s))) s.items
   accepted_items s named values =
       items_agree s s.items (no_parts (λ f. f.unknown) unknown_part s named).1 (no_parts (λ f. f.period) period_part s values).1
+
+  pub accepted_references : (s : Select) → (select_faults catalog s).table ≡ false → map (written_reference catalog) (tables_of s) ≡ map (placed_reference catalog) (tables_of s)
+  unfolding select_faults
+  accepted_references s there = references_agree (tables_of s) (or_parts (lacks_any catalog (tables_of s)) _ there).0

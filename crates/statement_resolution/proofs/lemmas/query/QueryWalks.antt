@@ -6,17 +6,17 @@ use Rattle.std.specs.List.{list_any}
 use Rattle.std.proofs.lemmas.List.{length-map, map-append, take-append-drop, take_more}
 use Rattle.std.proofs.lemmas.List.Folds.{list_any-append}
 use Rattle.std.proofs.lemmas.Grind.{flat_map-append}
-use Rattle.sql_statements.proofs.QueryViews.{combined_view, simple_view}
-use Rattle.sql_statements.specs.Plain.{plain_chain, plain_join, plain_query, plain_select, plain_step, steps_of}
-use Rattle.sql_statements.specs.Trees.{Query, Select}
+use Rattle.sql_statements.proofs.QueryViews.{combined_view}
+use Rattle.sql_statements.specs.Plain.{plain_chain, plain_join, plain_query, plain_step, steps_of}
+use Rattle.sql_statements.specs.Trees.{Query, Select, Steps}
 use Rattle.sql_statements.specs.declared.statement.JoinChain.{JoinChain}
 use Rattle.sql_statements.specs.declared.statement.SelectDistinct.{SelectDistinct}
 use Rattle.sql_statements.specs.declared.tree.QueryTree as code
 use Rattle.sql_statements.specs.declared.tree.SetOperator.{SetOperator}
-use Rattle.statement_resolution.proofs.lemmas.judged.FaultSums.{among_append, either_none}
+use Rattle.statement_resolution.proofs.lemmas.judged.FaultSums.{among_after, among_append, either_assoc, either_crossed, either_turned}
 use Rattle.statement_resolution.proofs.lemmas.query.ReferenceLists.{front_tables, front_tables_more, tables_in}
 use Rattle.statement_resolution.specs.Faults.{either, faults_among}
-use Rattle.statement_resolution.specs.query.Faults.{kinds_faults, operand_faults, side_kinds}
+use Rattle.statement_resolution.specs.query.Faults.{kinds_faults, operand_faults, query_faults, select_faults, side_kinds}
 use Rattle.statement_resolution.specs.query.QueryParts.{first_select, operator_count, operator_count_among, selects_among, selects_of, sides_among, sides_of}
 use Rattle.statement_resolution.specs.query.Scopes.{chain_tables}
 use Rattle.statement_resolution.specs.declared.faults.Faults.{Faults}
@@ -94,57 +94,57 @@ steps_front steps i =
 pub count_many : (first : Box Written) (steps : Vec Step) → count_of (code.Combined first steps) ≡ count_of first.value + count_steps steps.items
 count_many first steps = ap operator_count (combined_view first steps)
 
--- ---- faults of selects
+-- ---- faults, of one part after the other
 
-module _ (f : Select → Faults) where
-  abbrev pub sum_of : Written → Faults
-  sum_of query = faults_among f (selects_of (plain_query query))
+module _ (catalog : List TableDef) where
+  -- of the query after a set operator, and of the operator
+  abbrev pub step_faults : Select → Step → Faults
+  step_faults left step = either (query_faults catalog (plain_query step.1)) (operand_faults catalog (left, first_select (plain_query step.1)))
 
-  abbrev pub sum_in : Step → Faults
-  sum_in step = sum_of step.1
+  of_steps : (left : Select) (steps : List Step)
+      → either (faults_among (select_faults catalog) (selects_among (steps_of (map plain_step steps)))) (faults_among (operand_faults catalog) (sides_among left (steps_of (map plain_step steps))))
+      ≡ faults_among (step_faults left) steps
+  of_steps left [] = refl
+  of_steps left (step ∷ steps) =
+      let query : Query = plain_query step.1 in
+      let rest : Steps = steps_of (map plain_step steps) in
+      let here : Faults = operand_faults catalog (left, first_select query) in
+      let selects : Faults = faults_among (select_faults catalog) (selects_of query) in
+      let sides : Faults = faults_among (operand_faults catalog) (sides_of query) in
+      let more_selects : Faults = faults_among (select_faults catalog) (selects_among rest) in
+      let more_sides : Faults = faults_among (operand_faults catalog) (sides_among left rest) in
+      ap (λ (f : Faults). either f (faults_among (operand_faults catalog) ((left, first_select query) ∷ sides_of query ++ sides_among left rest))) (among_append (select_faults catalog) (selects_of query) (selects_among rest))
+      ∙ ap (either (either selects more_selects)) (among_append (operand_faults catalog) ((left, first_select query) ∷ sides_of query) (sides_among left rest))
+      ∙ either_crossed selects more_selects (either here sides) more_sides
+      ∙ ap (λ (f : Faults). either f (either more_selects more_sides)) (sym (either_turned selects sides here))
+      ∙ ap (either (step_faults left step)) (of_steps left steps)
 
-  sum_among : (steps : List Step) → faults_among f (selects_among (steps_of (map plain_step steps))) ≡ faults_among sum_in steps
-  sum_among [] = refl
-  sum_among (step ∷ steps) =
-      among_append f (selects_of (plain_query step.1)) (selects_among (steps_of (map plain_step steps)))
-      ∙ ap (either (sum_in step)) (sum_among steps)
+  pub faults_many : (first : Box Written) (steps : Vec Step)
+      → query_faults catalog (plain_query (code.Combined first steps)) ≡ either (query_faults catalog (plain_query first.value)) (faults_among (step_faults (first_select (plain_query first.value))) steps.items)
+  faults_many first steps =
+      let query : Query = plain_query first.value in
+      let rest : Steps = steps_of (map plain_step steps.items) in
+      let left : Select = first_select query in
+      let selects : Faults = faults_among (select_faults catalog) (selects_of query) in
+      let more_selects : Faults = faults_among (select_faults catalog) (selects_among rest) in
+      ap (query_faults catalog) (combined_view first steps)
+      ∙ ap (λ (f : Faults). either f (faults_among (operand_faults catalog) (sides_of query ++ sides_among left rest))) (among_append (select_faults catalog) (selects_of query) (selects_among rest))
+      ∙ ap (either (either selects more_selects)) (among_append (operand_faults catalog) (sides_of query) (sides_among left rest))
+      ∙ either_crossed selects more_selects (faults_among (operand_faults catalog) (sides_of query)) (faults_among (operand_faults catalog) (sides_among left rest))
+      ∙ ap (either (query_faults catalog query)) (of_steps left steps.items)
 
-  pub sum_one : (s : SelectDistinct) → sum_of (code.Select s) ≡ f (plain_select s)
-  sum_one s = ap (λ (q : Query). faults_among f (selects_of q)) (simple_view s) ∙ either_none (f (plain_select s))
-
-  pub sum_many : (first : Box Written) (steps : Vec Step) → sum_of (code.Combined first steps) ≡ either (sum_of first.value) (faults_among sum_in steps.items)
-  sum_many first steps =
-      ap (λ (q : Query). faults_among f (selects_of q)) (combined_view first steps)
-      ∙ among_append f (selects_of (plain_query first.value)) (selects_among (steps_of (map plain_step steps.items)))
-      ∙ ap (either (sum_of first.value)) (sum_among steps.items)
-
--- ---- faults of set operators
-
-module _ (f : Select × Select → Faults) where
-  abbrev pub sides_sum : Written → Faults
-  sides_sum query = faults_among f (sides_of (plain_query query))
-
-  abbrev pub side_in : Select → Step → Faults
-  side_in left step = either (f (left, first_select (plain_query step.1))) (sides_sum step.1)
-
-  sides_steps : (left : Select) (steps : List Step) → faults_among f (sides_among left (steps_of (map plain_step steps))) ≡ faults_among (side_in left) steps
-  sides_steps left [] = refl
-  sides_steps left (step ∷ steps) =
-      among_append f ((left, first_select (plain_query step.1)) ∷ sides_of (plain_query step.1)) (sides_among left (steps_of (map plain_step steps)))
-      ∙ ap (either (side_in left step)) (sides_steps left steps)
-
-  pub sides_many : (first : Box Written) (steps : Vec Step)
-      → sides_sum (code.Combined first steps) ≡ either (sides_sum first.value) (faults_among (side_in (first_select (plain_query first.value))) steps.items)
-  sides_many first steps =
-      ap (λ (q : Query). faults_among f (sides_of q)) (combined_view first steps)
-      ∙ among_append f (sides_of (plain_query first.value)) (sides_among (first_select (plain_query first.value)) (steps_of (map plain_step steps.items)))
-      ∙ ap (either (sides_sum first.value)) (sides_steps (first_select (plain_query first.value)) steps.items)
-
--- ---- the first select
-
--- the faults of a step, if the columns on its left are of these kinds
-abbrev pub side_by : List TableDef → List (Option ValueKind) → Step → Faults
-side_by catalog left step = either (kinds_faults left (side_kinds catalog (first_select (plain_query step.1)))) (sides_sum (operand_faults catalog) step.1)
+-- in a loop, with the step in hand
+pub step_more : (catalog : List TableDef) (left : Select) (old : Faults) (steps : List Step) (i : ℕ) (s : Step) (before between after : Faults) (kinds next_kinds : List (Option ValueKind))
+    → i < length steps → s ≡ get_or steps i s → before ≡ either old (faults_among (step_faults catalog left) (take i steps))
+    → between ≡ either before (query_faults catalog (plain_query s.1)) → kinds ≡ side_kinds catalog left → next_kinds ≡ side_kinds catalog (first_select (plain_query s.1))
+    → after ≡ either between (kinds_faults kinds next_kinds) → after ≡ either old (faults_among (step_faults catalog left) (take (i + 1) steps))
+step_more catalog left old steps i s before between after kinds next_kinds here item so_far of_query of_left of_right of_operator =
+    of_operator
+    ∙ ap (λ (ks : List (Option ValueKind)). either between (kinds_faults ks next_kinds)) of_left
+    ∙ ap (λ (ks : List (Option ValueKind)). either between (kinds_faults (side_kinds catalog left) ks)) of_right
+    ∙ ap (λ (f : Faults). either f (operand_faults catalog (left, first_select (plain_query s.1)))) of_query
+    ∙ either_assoc before (query_faults catalog (plain_query s.1)) (operand_faults catalog (left, first_select (plain_query s.1)))
+    ∙ among_after (step_faults catalog left) old steps i s before (step_faults catalog left s) here item so_far refl
 
 -- ---- more set operators than are left
 

@@ -1,11 +1,16 @@
 -- References by their tables' numbers, in a loop.
-use Rattle.std.proofs.Common.{◌≡◌, ◌≤◌, ◌+◌, ◌++◌, ◌∷◌, ◌&&◌, ◌==◌, ℕ, Bool, true, false, List, [], Some, arith, length, map, refl, take, ap}
+use Rattle.std.proofs.Common.{◌≡◌, ◌≤◌, ◌+◌, ◌++◌, ◌∷◌, ◌&&◌, ◌==◌, ◌∙◌, ℕ, Bool, true, false, List, [], Option, None, Some, arith, length, map, refl, sym, take, ap}
+use Rattle.std.specs.Option.{is_none}
+use Rattle.std.proofs.lemmas.Bool.{false≢true}
 use Rattle.std.proofs.lemmas.Bool.Decides.{nat_tests}
 use Rattle.std.proofs.lemmas.List.{length-map, length-take-le}
 use Rattle.period_core.specs.declared.window.Window.{Window}
 use Rattle.sql_statements.specs.declared.statement.TableReference.{TableReference}
+use Rattle.statement_resolution.proofs.lemmas.query.ColumnLists.{not_there}
 use Rattle.statement_resolution.specs.SystemWindows.{window_of}
 use Rattle.catalog_core.specs.query.Fitting.{are_in_place}
+use Rattle.statement_resolution.specs.query.Faults.{lacks_one}
+use Rattle.statement_resolution.specs.query.Places.{placed_reference}
 use Rattle.statement_resolution.specs.query.Resolving.{ReferenceParts, reference_parts, value_kinds, written_reference}
 use Rattle.catalog_core.specs.table.TableWords.{number_of, table_of_name}
 use Rattle.catalog_core.specs.declared.query.resolved.QueryReference.{QueryReference}
@@ -14,9 +19,24 @@ use Rattle.catalog_core.specs.declared.table.ValueKind.{ValueKind}
 
 pub same_parts : (catalog : List TableDef) (r : TableReference) (number : ℕ) (t : TableDef) (seen : Window) (kinds : List ValueKind)
     → number_of catalog r.table ≡ Some number → table_of_name catalog r.table ≡ Some t → seen ≡ window_of r.window → kinds ≡ value_kinds t
-    → written_reference catalog r ≡ (Some number, seen, Some kinds)
+    → placed_reference catalog r ≡ (Some number, seen, Some kinds)
 same_parts catalog r number t seen kinds numbered there window of_table =
     rw (numbered, there, window, of_table) refl
+
+-- a table that is missing
+pub missing_parts : (catalog : List TableDef) (r : TableReference) (seen : Window) (kinds : List ValueKind) → number_of catalog r.table ≡ None → seen ≡ window_of r.window → kinds ≡ []
+    → placed_reference catalog r ≡ (Some 0, seen, Some kinds)
+missing_parts catalog r seen kinds lacking window none = rw (lacking, not_there catalog r.table lacking, window, none) refl
+
+-- a table that exists has its number
+pub found_parts : (catalog : List TableDef) (r : TableReference) → lacks_one catalog r ≡ false → written_reference catalog r ≡ placed_reference catalog r
+found_parts catalog r there =
+    by (number_of catalog r.table) (table_of_name catalog r.table) refl refl there
+  where
+    by : (n : Option ℕ) (o : Option TableDef) → number_of catalog r.table ≡ n → table_of_name catalog r.table ≡ o → is_none o ≡ false → written_reference catalog r ≡ placed_reference catalog r
+    by (Some n) (Some t) numbered found h = rw (numbered, found) refl
+    by None (Some t) numbered found h = absurd (false≢true (sym h ∙ ap is_none (sym found ∙ not_there catalog r.table numbered)))
+    by n None numbered found h = absurd (false≢true (sym h))
 
 -- one more reference, after those that are in their places
 pub placed_more : (place : ℕ) (rs : List QueryReference) (r : QueryReference) → are_in_place place rs ≡ true → r.place ≡ place + length rs → are_in_place place (rs ++ r ∷ []) ≡ true

@@ -1,5 +1,5 @@
 -- The faults of the conditions of a select, in loops over joins and chains.
-use Rattle.std.proofs.Common.{◌≡◌, ◌<◌, ◌≤◌, ◌+◌, ◌++◌, ◌∷◌, ◌∙◌, ℕ, List, [], Option, None, Some, append_assoc, ◌-◌, arith, drop, get_or, length, length-append, map, refl, sym, take, take_all, ap}
+use Rattle.std.proofs.Common.{◌≡◌, ◌<◌, ◌≤◌, ◌+◌, ◌++◌, ◌∷◌, ◌∙◌, ℕ, List, [], None, Some, append_assoc, ◌-◌, arith, drop, get_or, length, length-append, map, refl, sym, take, take_all, ap}
 use Rattle.std.proofs.Math.Seq.{drop-append_seam, take-append_seam}
 use Rattle.std.proofs.lemmas.List.{append-nil, map_push, take_more}
 use Rattle.std.proofs.lemmas.Grind.{flat_map-append}
@@ -9,13 +9,14 @@ use Rattle.sql_statements.specs.Trees.{Condition}
 use Rattle.sql_statements.specs.declared.statement.Compare.{Compare}
 use Rattle.sql_statements.specs.declared.statement.Join.{Join}
 use Rattle.sql_statements.specs.declared.statement.JoinChain.{JoinChain}
+use Rattle.sql_statements.specs.declared.statement.SelectItem.{SelectItem}
 use Rattle.sql_statements.specs.declared.statement.TableReference.{TableReference}
 use Rattle.statement_resolution.proofs.lemmas.judged.FaultSums.{among_append, among_push, either_assoc, either_none}
 use Rattle.statement_resolution.proofs.lemmas.query.ReferenceLists.{front_tables, front_tables_more, join_tables, join_tables_more}
-use Rattle.statement_resolution.specs.Faults.{either, faults_among, where_faults}
-use Rattle.statement_resolution.specs.query.Faults.{compare_faults, condition_faults, item_faults, matches_among, reference_faults, scoped_faults, select_faults}
+use Rattle.statement_resolution.specs.Faults.{either, faults_among, no_faults}
+use Rattle.statement_resolution.specs.query.Faults.{condition_faults, item_faults, query_faults, reference_faults, scoped_faults, select_faults}
 use Rattle.catalog_core.specs.table.TableWords.{table_of_name}
-use Rattle.statement_resolution.specs.query.Scopes.{ScopedCondition, declared_columns, SeenColumn, chain_conditions, chain_tables, on_conditions, seen_columns, tables_of, where_conditions, whole_scope}
+use Rattle.statement_resolution.specs.query.Scopes.{ScopedCondition, declared_columns, SeenColumn, chain_conditions, chain_tables, conditions_in, on_conditions, seen_columns, tables_of, where_conditions, whole_scope}
 use Rattle.catalog_core.specs.table.Naming.{known_name}
 use Rattle.statement_resolution.specs.declared.faults.Faults.{Faults}
 use Rattle.catalog_core.specs.declared.table.TableDef.{TableDef}
@@ -45,30 +46,33 @@ module _ (catalog : List TableDef) where
   before_any before other seen (j ∷ joins) =
       ap (either (condition_faults (seen_columns catalog (seen ++ j.reference ∷ [])) j.condition)) (before_any before other (seen ++ j.reference ∷ []) joins)
 
-  -- the faults of the first joins of a chain
+  -- of the first joins of a chain
   abbrev pub join_faults : TableReference → List Join → Faults
   join_faults first joins = faults_among (scoped_faults catalog) (chain_conditions [] (first ∷ []) (map plain_join joins))
 
-  pub join_faults_more : (first : TableReference) (joins : List Join) (i : ℕ) (j : Join) (columns : List SeenColumn) (before found : Faults)
-      → i < length joins → j ≡ get_or joins i j → before ≡ join_faults first (take i joins)
-      → columns ≡ seen_columns catalog (first ∷ join_tables (take (i + 1) joins)) → found ≡ condition_faults columns (plain_condition j.condition)
-      → either before found ≡ join_faults first (take (i + 1) joins)
-  join_faults_more first joins i j columns before found here item same seen this =
+  -- one more join, after other faults
+  pub join_faults_more : (old : Faults) (first : TableReference) (joins : List Join) (i : ℕ) (j : Join) (columns : List SeenColumn) (before after : Faults)
+      → i < length joins → j ≡ get_or joins i j → before ≡ either old (join_faults first (take i joins))
+      → columns ≡ seen_columns catalog (first ∷ join_tables (take (i + 1) joins)) → after ≡ either before (condition_faults columns (plain_condition j.condition))
+      → after ≡ either old (join_faults first (take (i + 1) joins))
+  join_faults_more old first joins i j columns before after here item same seen next =
       let f : ScopedCondition → Faults = scoped_faults catalog in
       let front : List written.Join = map plain_join (take i joins) in
+      let found : Faults = condition_faults columns (plain_condition j.condition) in
       let this_one : found ≡ f (joined_scope [] (first ∷ []) front (plain_join j)) =
-      this ∙ ap (λ (cs : List SeenColumn). condition_faults cs (plain_condition j.condition)) (seen ∙ ap (λ (rs : List TableReference). seen_columns catalog (first ∷ rs)) (join_tables_more joins i j here item)) in
-      ap (λ b. either b found) same
-      ∙ ap (either (join_faults first (take i joins))) this_one
+      ap (λ (cs : List SeenColumn). condition_faults cs (plain_condition j.condition)) (seen ∙ ap (λ (rs : List TableReference). seen_columns catalog (first ∷ rs)) (join_tables_more joins i j here item)) in
+      next ∙ ap (λ b. either b found) same ∙ either_assoc old (join_faults first (take i joins)) found
+      ∙ ap (either old)
+      (ap (either (join_faults first (take i joins))) this_one
       ∙ sym (among_push f (chain_conditions [] (first ∷ []) front) (joined_scope [] (first ∷ []) front (plain_join j)))
       ∙ ap (faults_among f) (sym (conditions_push [] (first ∷ []) front (plain_join j)))
       ∙ ap (λ (js : List written.Join). faults_among f (chain_conditions [] (first ∷ []) js)) (sym (map_push plain_join (take i joins) j))
       ∙ ap (λ (x : Join). join_faults first (take i joins ++ x ∷ [])) item
-      ∙ ap (join_faults first) (sym (take_more joins i j here))
+      ∙ ap (join_faults first) (sym (take_more joins i j here)))
 
   -- ---- chains
 
-  -- the faults of the conditions of a chain
+  -- of a chain
   abbrev pub faults_on : written.JoinChain → Faults
   faults_on chain = faults_among (scoped_faults catalog) (chain_conditions [] (chain.first ∷ []) chain.joins)
 
@@ -118,35 +122,47 @@ behind old whole seen start at same =
     let count : length seen ≤ length whole - start = rw (same, at) (simp length-append (omega arith)) in
     ap (take (length whole - start)) rest ∙ take_all (length whole - start) seen count
 
--- the whole of a select, by its parts
-pub select_sum : (catalog : List TableDef) (s : written.Select) (tables before where_part items rest whole : Faults)
-    → tables ≡ reference_faults catalog (tables_of s)
-    → before ≡ either tables (faults_among (faults_on catalog) s.chains)
-    → where_part ≡ where_faults (compare_faults (matches_among (seen_columns catalog (tables_of s)))) s.condition
-    → items ≡ faults_among (item_faults (seen_columns catalog (tables_of s))) s.items
-    → rest ≡ either where_part items → whole ≡ either before rest
-    → whole ≡ select_faults catalog s
-unfolding select_faults
-select_sum catalog s tables before where_part items rest whole of_tables of_on of_where of_items of_rest of_whole =
-    let f : ScopedCondition → Faults = scoped_faults catalog in
-    let cols : List SeenColumn = seen_columns catalog (tables_of s) in
-    let first : Faults = reference_faults catalog (tables_of s) in
-    let on : Faults = faults_among f (on_conditions [] s.chains) in
-    let where_all : Faults = where_faults (compare_faults (matches_among cols)) s.condition in
-    let last : Faults = faults_among (item_faults cols) s.items in
-    let begun : before ≡ either first on =
-    of_on ∙ ap (λ (g : Faults). either g (faults_among (faults_on catalog) s.chains)) of_tables
-    ∙ ap (either first) (sym (on_faults catalog [] s.chains)) in
-    of_whole ∙ ap (λ (g : Faults). either g rest) begun ∙ ap (either (either first on)) (of_rest ∙ ap (λ (g : Faults). either g items) of_where ∙ ap (either where_all) of_items)
-    ∙ either_assoc first on (either where_all last)
-    ∙ ap (either first) (sym (either_assoc on where_all last)
-    ∙ ap (λ (g : Faults). either (either on g) last) (in_where s.condition)
-    ∙ ap (λ (g : Faults). either g last) (sym (among_append f (on_conditions [] s.chains) (where_conditions (whole_scope s) s.condition))))
-  where
-    in_where : (o : Option (Condition Compare)) → where_faults (compare_faults (matches_among (seen_columns catalog (tables_of s)))) o ≡ faults_among (scoped_faults catalog) (where_conditions (whole_scope s) o)
-    in_where None = refl
-    in_where (Some condition) = sym (either_none (condition_faults (seen_columns catalog (tables_of s)) condition))
-
 -- the first columns of a list are the ones before those of the last tables
 pub in_front : (old whole seen : List SeenColumn) (start : ℕ) → start ≡ length old → whole ≡ old ++ seen → take start whole ≡ old
 in_front old whole seen start at same = ap (λ n. take n whole) at ∙ ap (take (length old)) same ∙ take-append_seam old seen
+
+-- ---- the whole of a select
+
+module _ (catalog : List TableDef) (s : written.Select) where
+  -- the condition of WHERE, after those of ON
+  pub where_sum : (condition : Condition Compare) (columns : List SeenColumn) (old now after : Faults) → s.condition ≡ Some condition
+      → now ≡ either old (faults_among (faults_on catalog) s.chains) → columns ≡ seen_columns catalog (tables_of s)
+      → after ≡ either now (condition_faults columns condition) → after ≡ either old (faults_among (scoped_faults catalog) (conditions_in s))
+  where_sum condition columns old now after is so_far seen next =
+      let f : ScopedCondition → Faults = scoped_faults catalog in
+      let this : ScopedCondition = (whole_scope s, condition) in
+      let on : Faults = faults_among f (on_conditions [] s.chains) in
+      next ∙ ap (λ (cs : List SeenColumn). either now (condition_faults cs condition)) seen
+      ∙ ap (λ (g : Faults). either g (f this)) (so_far ∙ ap (either old) (sym (on_faults catalog [] s.chains)))
+      ∙ either_assoc old on (f this)
+      ∙ ap (either old) (sym (among_push f (on_conditions [] s.chains) this))
+      ∙ ap (λ o. either old (faults_among f (on_conditions [] s.chains ++ where_conditions (whole_scope s) o))) (sym is)
+
+  pub no_where_sum : (old now : Faults) → s.condition ≡ None → now ≡ either old (faults_among (faults_on catalog) s.chains)
+      → now ≡ either old (faults_among (scoped_faults catalog) (conditions_in s))
+  no_where_sum old now is so_far =
+      let f : ScopedCondition → Faults = scoped_faults catalog in
+      so_far ∙ ap (either old) (sym (on_faults catalog [] s.chains))
+      ∙ ap (λ (cs : List ScopedCondition). either old (faults_among f cs)) (sym (append-nil (on_conditions [] s.chains)))
+      ∙ ap (λ o. either old (faults_among f (on_conditions [] s.chains ++ where_conditions (whole_scope s) o))) (sym is)
+
+  -- the tables, then the conditions, then the items
+  pub select_sum : (old tables begun judged whole : Faults) (columns : List SeenColumn) (items : List SelectItem) → tables ≡ reference_faults catalog (tables_of s) → begun ≡ either old tables
+      → judged ≡ either begun (faults_among (scoped_faults catalog) (conditions_in s)) → columns ≡ seen_columns catalog (tables_of s) → items ≡ s.items
+      → whole ≡ either judged (faults_among (item_faults columns) items) → whole ≡ either old (query_faults catalog (written.simple s))
+  unfolding select_faults
+  select_sum old tables begun judged whole columns items of_tables of_begun of_judged seen same of_whole =
+      let conditions : Faults = faults_among (scoped_faults catalog) (conditions_in s) in
+      let named : Faults = faults_among (item_faults (seen_columns catalog (tables_of s))) s.items in
+      let first : Faults = reference_faults catalog (tables_of s) in
+      let all : Faults = either first (either conditions named) in
+      of_whole ∙ ap (λ (cs : List SeenColumn). either judged (faults_among (item_faults cs) items)) seen
+      ∙ ap (λ (xs : List SelectItem). either judged (faults_among (item_faults (seen_columns catalog (tables_of s))) xs)) same
+      ∙ ap (λ (g : Faults). either g named) (of_judged ∙ ap (λ (g : Faults). either g conditions) (of_begun ∙ ap (either old) of_tables))
+      ∙ either_assoc (either old first) conditions named ∙ either_assoc old first (either conditions named)
+      ∙ ap (either old) (sym (either_none all) ∙ sym (either_none (either all no_faults)))

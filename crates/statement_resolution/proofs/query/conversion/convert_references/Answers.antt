@@ -1,23 +1,15 @@
 use Rattle.std.proofs.Common.{◌≡◌, ◌≤◌, ◌∙◌, ap, arith, length, map, sym, take_all}
 use Rattle.statement_resolution.proofs.lemmas.conditions.Numbers.{map_more}
-use Rattle.catalog_core.proofs.lemmas.judged.Sound.{fails_at}
-use Rattle.statement_resolution.proofs.lemmas.query.ReferenceLists.{Borrowed, any_map, map_both}
+use Rattle.statement_resolution.proofs.lemmas.query.ReferenceLists.{Borrowed, map_both}
 use Rattle.statement_resolution.proofs.lemmas.query.ReferenceParts.{parts_count, placed_more}
-use Rattle.statement_resolution.specs.query.Faults.{lacks_one}
 use Rattle.catalog_core.specs.query.Fitting.{are_in_place}
-use Rattle.statement_resolution.specs.query.Resolving.{reference_parts, written_reference}
+use Rattle.statement_resolution.specs.query.Places.{placed_reference}
+use Rattle.statement_resolution.specs.query.Resolving.{reference_parts}
 use Rattle.statement_resolution.proofs.query.conversion.convert_references.Goals as goal
-
-pub convert_reference-requires : goal.convert_reference-requires
-convert_reference-requires c =
-    let p = lacks_one c.args.catalog.now.tables in
-    let now = λ (r : Borrowed). r.now in
-    fails_at (λ (r : Borrowed). p r.now) c.args.references.now c.loop-reference.reference-index c.reference-item.result c.loop-reference-test.true c.reference-item.is
-    (sym (any_map p now c.args.references.now) ∙ c.requires.there)
 
 pub loop-reference-preserved : goal.loop-reference-preserved
 loop-reference-preserved c =
-    let f = λ (r : Borrowed). written_reference c.args.catalog.now.tables r.now in
+    let f = λ (r : Borrowed). placed_reference c.args.catalog.now.tables r.now in
     let rs = c.args.references.now in
     let i = c.loop-reference.reference-index in
     let within : i ≤ length rs = omega (arith, c.loop-reference-test.true) in
@@ -33,7 +25,7 @@ loop-reference-preserved c =
 
 pub returns : goal.returns
 returns c =
-    let f = written_reference c.args.catalog.now.tables in
+    let f = placed_reference c.args.catalog.now.tables in
     let now = λ (r : Borrowed). r.now in
     let rs = c.args.references.now in
     record {

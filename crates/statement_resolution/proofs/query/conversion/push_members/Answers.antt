@@ -15,8 +15,8 @@ loop-part-preserved c =
     members_next f c.outer_and.result.1.now c.loop-part.part-index c.part-item.result (map conjunct_parts c.push.new.self.items) c.loop-part.conjuncts.items c.push-in-loop-part.new.self.items c.in_ok-resolve_condition-2.field-0
     c.loop-part-test.true c.part-item.is c.loop-part.invariant c.in_ok-resolve_condition-2.ensures c.in_ok-push-2.ensures.items
 
-pub returns : goal.returns
-returns c =
+pub returns-clause-placed : goal.returns-clause-placed
+returns-clause-placed c =
     let f = placed_by (place_among c.args.scope.now.before.now c.args.scope.now.seen.now) in
     many_members f c.args.condition.now c.outer_and.result.0.now c.outer_and.result.1.now c.args.conjuncts.now.items c.push.new.self.items c.loop-part.conjuncts.items c.loop-part.part-index c.in_ok-resolve_condition.field-0
     c.outer_and.ensures c.in_ok-push.ensures.items c.in_ok-resolve_condition.ensures c.loop-part-test.false c.loop-part.invariant

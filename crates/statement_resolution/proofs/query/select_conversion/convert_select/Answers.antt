@@ -1,36 +1,29 @@
-use Rattle.std.proofs.Common.{◌∙◌, List, [], ap, arith, length, map, sym}
-use Rattle.std.proofs.lemmas.Bool.{or_parts}
+use Rattle.std.proofs.Common.{◌≡◌, ◌∙◌, List, [], ap, arith, length, map, sym}
 use Rattle.std.proofs.lemmas.List.{length-map}
 use Rattle.sql_statements.specs.Plain.{plain_select}
-use Rattle.statement_resolution.proofs.lemmas.query.Converted.{accepted_conjuncts, accepted_items}
+use Rattle.statement_resolution.proofs.lemmas.query.Accepted.{sound_one}
+use Rattle.statement_resolution.proofs.lemmas.query.Converted.{accepted_conjuncts, accepted_items, accepted_references}
 use Rattle.statement_resolution.proofs.lemmas.query.ReferenceLists.{Borrowed}
-use Rattle.statement_resolution.specs.query.Faults.{lacks_any, select_faults}
+use Rattle.statement_resolution.proofs.lemmas.query.ScopeFaults.{select_sum}
+use Rattle.statement_resolution.specs.query.Faults.{item_kinds, reference_faults}
 use Rattle.catalog_core.specs.query.Fitting.{are_in_place}
-use Rattle.statement_resolution.specs.query.Places.{place_among, placed_item}
-use Rattle.statement_resolution.specs.query.Resolving.{conjunct_parts, reference_parts, written_reference}
-use Rattle.statement_resolution.specs.query.Scopes.{SeenColumn, tables_of}
+use Rattle.statement_resolution.specs.query.Places.{place_among, placed_item, placed_reference}
+use Rattle.statement_resolution.specs.query.Resolving.{conjunct_parts, reference_parts}
+use Rattle.statement_resolution.specs.query.Scopes.{SeenColumn, seen_columns, tables_of}
 use Rattle.catalog_core.specs.query.Selection.{item_parts}
 use Rattle.statement_resolution.proofs.query.select_conversion.convert_select.Goals as goal
 
-pub convert_references-requires-clause-there : goal.convert_references-requires-clause-there
-unfolding select_faults
-convert_references-requires-clause-there c =
-    ap (λ rs. lacks_any c.args.catalog.now.tables (map (λ (r : Borrowed). r.now) rs)) c.as_slice.ensures.value
-    ∙ ap (lacks_any c.args.catalog.now.tables) c.in_ok-references.ensures.value
-    ∙ (or_parts (lacks_any c.args.catalog.now.tables (tables_of (plain_select c.args.select.now))) _ c.requires.there).0
-
 pub from_vec-requires : goal.from_vec-requires
 from_vec-requires c =
-    let written = written_reference c.args.catalog.now.tables in
     let now = λ (r : Borrowed). r.now in
     omega (
       arith,
       ap length c.in_ok-references-2.ensures.parts,
-      length-map (map now c.as_slice.result.now) written,
-      length-map c.as_slice.result.now now,
+      length-map (map now c.as_slice-2.result.now) (placed_reference c.args.catalog.now.tables),
+      length-map c.as_slice-2.result.now now,
       length-map c.in_ok-references-2.references.items reference_parts,
       c.in_ok-references.ensures.filled,
-      ap length c.as_slice.ensures.value,
+      ap length c.as_slice-2.ensures.value,
     )
 
 pub returns : goal.returns
@@ -38,17 +31,29 @@ returns c =
     let catalog = c.args.catalog.now.tables in
     let s = plain_select c.args.select.now in
     let now = λ (r : Borrowed). r.now in
+    let borrowed : map now c.as_slice-2.result.now ≡ tables_of s = ap (map now) c.as_slice-2.ensures.value ∙ c.in_ok-references.ensures.value in
+    let seen : c.as_slice-3.result.now ≡ seen_columns catalog (tables_of s) = c.as_slice-3.ensures.value ∙ c.in_ok-conjuncts.ensures.seen in
+    let count : length c.in_ok-references-2.references.items ≡ length (tables_of s) =
+    omega (arith, ap length c.in_ok-references-2.ensures.parts, ap length borrowed, length-map (map now c.as_slice-2.result.now) (placed_reference catalog), length-map c.in_ok-references-2.references.items reference_parts) in
+    let same_length = ap length c.from_vec.ensures in
     record {
-      resolved = record {
-        references =
-            ap (map (written_reference catalog)) (sym c.in_ok-references.ensures.value ∙ ap (map now) (sym c.as_slice.ensures.value))
-            ∙ c.in_ok-references-2.ensures.parts ∙ ap (map reference_parts) (sym c.from_vec.ensures);
-        conjuncts = accepted_conjuncts catalog s c.requires.named c.requires.values ∙ sym c.in_ok-conjuncts.ensures.placed ∙ ap (map conjunct_parts) (sym c.from_vec-2.ensures);
-        items =
-            accepted_items catalog s c.requires.named c.requires.values
-            ∙ ap (λ (cs : List SeenColumn). map (placed_item (place_among [] cs)) s.items) (sym (c.as_slice-2.ensures.value ∙ c.in_ok-conjuncts.ensures.seen))
-            ∙ ap (map (placed_item (place_among [] c.as_slice-2.result.now))) (sym c.as_slice-3.ensures.value)
-            ∙ c.in_ok-items.ensures ∙ ap (map item_parts) (sym c.from_vec-3.ensures);
-      };
-      placed = ap (are_in_place c.args.place) c.from_vec.ensures ∙ c.in_ok-references-2.ensures.placed;
+      same = λ sound.
+          let parts = sound_one catalog s sound in
+          record {
+            references = accepted_references catalog s parts.0 ∙ ap (map (placed_reference catalog)) (sym borrowed)
+                ∙ c.in_ok-references-2.ensures.parts ∙ ap (map reference_parts) (sym c.from_vec.ensures);
+            conjuncts = accepted_conjuncts catalog s parts.1 parts.2 ∙ sym c.in_ok-conjuncts.ensures.placed ∙ ap (map conjunct_parts) (sym c.from_vec-2.ensures);
+            items =
+                accepted_items catalog s parts.1 parts.2
+                ∙ ap (λ (cs : List SeenColumn). map (placed_item (place_among [] cs)) s.items) (sym seen)
+                ∙ ap (map (placed_item (place_among [] c.as_slice-3.result.now))) (sym c.as_slice-4.ensures.value)
+                ∙ c.in_ok-items.ensures.numbered ∙ ap (map item_parts) (sym c.from_vec-3.ensures);
+          };
+      placed = ap (are_in_place c.args.place.now) c.from_vec.ensures ∙ c.in_ok-references-2.ensures.placed;
+      counted = omega (arith, same_length, c.len.ensures, c.in_ok-references-2.references.ok.0);
+      tables = omega (arith, c.len.ensures, count, c.in_ok-references-2.references.ok.0);
+      kinds = c.in_ok-items.ensures.kinds ∙ ap (λ (cs : List SeenColumn). item_kinds cs c.as_slice-4.result.now) seen ∙ ap (item_kinds (seen_columns catalog (tables_of s))) c.as_slice-4.ensures.value;
+      faults = select_sum catalog s c.args.faults.now c.table_faults.result c.or.result c.convert_conjuncts.new.faults c.convert_items.new.faults c.as_slice-3.result.now c.as_slice-4.result.now
+          (c.table_faults.ensures ∙ ap (λ rs. reference_faults catalog (map now rs)) c.as_slice.ensures.value ∙ ap (reference_faults catalog) c.in_ok-references.ensures.value)
+          c.or.ensures c.in_ok-conjuncts.ensures.faults seen c.as_slice-4.ensures.value c.in_ok-items.ensures.faults;
     }

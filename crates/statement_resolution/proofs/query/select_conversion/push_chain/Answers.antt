@@ -2,9 +2,11 @@ use Rattle.std.proofs.Common.{◌≡◌, ◌∙◌, ◌+◌, ◌++◌, ◌∷◌
 use Rattle.std.proofs.lemmas.List.{append-nil}
 use Rattle.sql_statements.specs.Plain.{plain_join}
 use Rattle.sql_statements.specs.declared.statement.Join.{Join}
+use Rattle.statement_resolution.proofs.lemmas.judged.FaultSums.{either_none}
 use Rattle.statement_resolution.proofs.lemmas.query.Converted.{joined_members}
 use Rattle.statement_resolution.proofs.lemmas.query.ReferenceLists.{join_tables}
-use Rattle.statement_resolution.proofs.lemmas.query.ScopeFaults.{behind, in_front, seen_first, seen_step}
+use Rattle.statement_resolution.proofs.lemmas.query.ScopeFaults.{behind, in_front, join_faults, join_faults_more, seen_first, seen_step}
+use Rattle.statement_resolution.specs.Faults.{either}
 use Rattle.statement_resolution.specs.query.Places.{scoped_members}
 use Rattle.statement_resolution.specs.query.Resolving.{conjunct_parts}
 use Rattle.statement_resolution.specs.query.Scopes.{SeenColumn, chain_conditions, seen_columns}
@@ -14,6 +16,7 @@ pub loop-join-init : goal.loop-join-init
 loop-join-init c = record {
   seen = seen_first c.args.catalog.now.tables c.args.chain.now.first c.args.columns.now.items c.push_columns.new.columns.items c.in_ok-push_columns.ensures;
   placed = λ before at. sym (append-nil (map conjunct_parts c.args.conjuncts.now.items));
+  faults = sym (either_none c.args.faults.now);
 }
 
 pub loop-join-preserved : goal.loop-join-preserved
@@ -34,7 +37,9 @@ loop-join-preserved c =
       seen = seen;
       placed = λ before at. joined_members catalog before first joins i c.join-item.result _ _
           (map conjunct_parts c.args.conjuncts.now.items) (map conjunct_parts c.loop-join.conjuncts.items) (map conjunct_parts c.push_members.new.conjuncts.items)
-          c.loop-join-test.true c.join-item.is (front ∙ at) slice (c.loop-join.invariant.placed before at) c.in_ok-push_members.ensures;
+          c.loop-join-test.true c.join-item.is (front ∙ at) slice (c.loop-join.invariant.placed before at) c.in_ok-push_members.ensures.placed;
+      faults = join_faults_more catalog c.args.faults.now first joins i c.join-item.result _ c.loop-join.faults c.push_members.new.faults
+          c.loop-join-test.true c.join-item.is c.loop-join.invariant.faults slice c.in_ok-push_members.ensures.faults;
     }
 
 pub returns : goal.returns
@@ -46,4 +51,5 @@ returns c =
       seen = c.loop-join.invariant.seen ∙ ap (λ (js : List Join). c.args.columns.now.items ++ seen_columns catalog (first ∷ join_tables js)) all;
       placed = λ before at. c.loop-join.invariant.placed before at
           ∙ ap (λ (js : List Join). map conjunct_parts c.args.conjuncts.now.items ++ flat_map (scoped_members catalog) (chain_conditions before (first ∷ []) (map plain_join js))) all;
+      faults = c.loop-join.invariant.faults ∙ ap (λ (js : List Join). either c.args.faults.now (join_faults catalog first js)) all;
     }
