@@ -26,7 +26,7 @@ unheard_by (Some command) word = refused_line word Memory []
 pub unheard : List ℕ → List ℕ
 unheard line = unheard_by (asked_in line) (word_in line)
 
--- a command may be stopped by such a refusal
+-- a command may be stopped by a refusal of the store
 pub may_stop : (command : SessionCommand) (refusal : Refusal) → IsStoreRefusal refusal → MayStop command (Script refusal)
 may_stop Tables refusal may = may
 may_stop Clock refusal may = may

@@ -25,7 +25,7 @@ use Rattle.bitemporal_file.proofs.ReporterFacts.{greatest-more, refusal-more}
 
 -- ---- one script
 
--- why a script was not read is no refusal
+-- the fault of a script that was not read is no refusal
 pub read_fault_is_plain : (has_failed : Bool) (fault : RunFault) (refusal : Refusal) → (fault ≡ Memory) ⊎ ((fault ≡ Read) × (has_failed ≡ true)) → fault ≡ Script refusal → ⊥
 read_fault_is_plain has_failed fault refusal (inl memory) is = cc
 read_fault_is_plain has_failed fault refusal (inr (read, failed)) is = cc

@@ -10,7 +10,7 @@ use Rattle.period_core.proofs.DateTexts.{bytes_are, bytes_from, date_found, date
 use Rattle.period_core.proofs.FractionTexts.{fraction_found, fraction_shown}
 use Rattle.period_core.proofs.OptionFacts.{bind_some, if_some, none_some, some_is}
 
--- ---- there is such a date
+-- ---- the date exists
 
 nat_le_is : (a b : ℕ) → nat_le a b ≡ true → a ≤ b
 nat_le_is a b e = grind (arith, nat_tests, e)

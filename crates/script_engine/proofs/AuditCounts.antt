@@ -73,7 +73,7 @@ same_rows history reference rows others first second =
     IsPermutation-trans rows (sees first.versions) others (IsPermutation-sym (sees first.versions) rows first.all)
     (IsPermutation-trans (sees first.versions) (sees second.versions) others between second.all)
 
--- a list of those that references have is one reference's, and each reference's is among them
+-- the lists that references have: each is some reference's list, and each reference's list is one of them
 whose : (tables : List (List PeriodRow)) (references : List QueryReference) (rows : List PeriodRow) → Contains (map (rows_for tables) references) rows → (reference : QueryReference) × Contains references reference × (rows_for tables reference ≡ rows)
 whose tables [] rows c = absurd (Contains-nil rows c)
 whose tables (first ∷ references) rows c =

@@ -68,7 +68,7 @@ key_names x = x.columns
 abbrev reference_names : ReferenceElement → List Name
 reference_names x = x.columns
 
--- a column that a name matches passes what each of this name passes
+-- some column passes a test if a name matches a column and each column of that name passes it
 column_found : (c : CreateTable) (name : Name) (test : ColumnElement → Bool) → is_matching Zero (own_matches c name) ≡ false
     → ((x : ColumnElement) → name ≡ x.name → test x ≡ true) → list_any test c.columns ≡ true
 unfolding matches_among is_matching
