@@ -35,7 +35,7 @@ pub read_bytes : (known : Option (List ℕ)) (script items : List ℕ) → scrip
 read_bytes None script items same bytes = tt
 read_bytes (Some all) script items same bytes = same ∙ bytes
 
--- the refusal of a script is one of the bytes that the reader has
+-- the refusal of a script that was read is a refusal of the reader's bytes
 pub read_refusal : (known : Option (List ℕ)) (script items : List ℕ) (refusal : Refusal) → script ≡ items → IfSome known (λ all. items ≡ read_of most_bytes all) → MayRefuseScript script refusal → IfSome known (λ all. MayRefuseScript (read_of most_bytes all) refusal)
 read_refusal None script items refusal same bytes may = tt
 read_refusal (Some all) script items refusal same bytes may = subst (λ (text : List ℕ). MayRefuseScript text refusal) (same ∙ bytes) may
@@ -129,7 +129,7 @@ module _ {W K : Type 0} (contents : W → Option (List ℕ)) (text : ℕ → K �
   faulty_flow false old new results fault is told = (told.off refl).0
   faulty_flow true old new results fault is told = rw (told.on refl).0 tt
 
-  -- a script whose report met one
+  -- a script whose report met a fault
   pub one_faulty : (known : Option (List ℕ)) (script : List ℕ) (old : Reporter W) (results : List K) (goes_on : Bool) (new : Reporter W) (fault : RunFault) → new.fault ≡ Some fault → ReceivesResults contents text status (record old { next = 1 }) results goes_on new →
       Ends contents text status (known ∷ []) old (one script results goes_on) (Err fault) new
   one_faulty known script old results goes_on new fault is told =

@@ -45,16 +45,16 @@ one_read (byte ∷ []) count size low some =
     ap (λ n. take n (byte ∷ [])) one
 one_read (byte ∷ next ∷ bytes) count size low some = let no : ⊥ = omega arith in absurd no
 
--- a read of nothing takes nothing
+-- a read of no bytes takes none
 pub taken-nothing : (a b c : Option (List ℕ)) (taken none : List ℕ) → Consumes a b taken → Consumes b c none → none ≡ [] → Consumes a c taken
 taken-nothing a b c taken none first last empty =
     subst (Consumes a c) (append-nil taken) (Consumes-trans a b c taken [] first (subst (Consumes b c) empty last))
 
--- a read that is tried again took nothing before
+-- a read that is tried again has taken no bytes before
 pub kept-taken : (a b c : Option (List ℕ)) (taken : List ℕ) → Keeps a b → Consumes b c taken → Consumes a c taken
 kept-taken a b c taken kept took = Consumes-trans a b c [] taken (Consumes-kept a a b [] (Consumes-nil a) kept) took
 
--- the bytes read up to the end of an input are all of it
+-- the bytes read up to the end of an input are the whole input
 pub all-read : (P : List ℕ → Type 0) (a b c : Option (List ℕ)) (all : List ℕ) → Consumes a b all → Consumes b c [] → IsAtEnd c → P all → IfSome a P
 all-read P None b c all first last end holds = tt
 all-read P (Some xs) None c all first last end holds = absurd first
@@ -105,7 +105,7 @@ module _ {K : Type 0} where
   stopped runs (Ran run) ended fault wholes off = more_ran runs (run ∷ []) ended fault wholes (one_ran run ended fault (λ quiet on. absurd (off quiet on)))
   stopped runs (LineAnswered bytes line told) ended fault wholes off = subst (λ (all : List (ScriptRun K)). AreRun all ended fault) (sym (append-nil runs)) (all_ran runs ended fault wholes)
 
-  -- a session that ended with this turn
+  -- a session that ended with the last of these turns
   pub stopped_turn : (turns : List (Turn K)) (turn : Turn K) (ended : Result Bool RunFault) (fault : Option RunFault) → All IsWhole (runs_of turns) → (fault ≡ None → ended ≢ Ok false → ⊥) → AreRun (runs_of (turns ++ turn ∷ [])) ended fault
   stopped_turn turns turn ended fault wholes off =
       subst (λ (runs : List (ScriptRun K)). AreRun runs ended fault) (sym (runs-one turns turn)) (stopped (runs_of turns) turn ended fault wholes off)
@@ -162,7 +162,7 @@ module _ {K : Type 0} where
       ap (λ rest. text_in text n first ++ rest) (text-more text next turns turn ∙ ap (λ m. turns_text text next turns ++ text_in text m turn) count)
       ∙ sym (append_assoc (text_in text n first) (turns_text text next turns) (text_in text (n + length (results_in first ++ all_results turns)) turn))
 
-  -- the results alone, whatever the output got of them
+  -- a reporter heard the results, whatever its output got of them
   abbrev pub Heard : {W : Type 0} → (ℕ → K → List ℕ) → (K → ℕ) → Reporter W → List K → Bool → Reporter W → Type 0
   Heard {W} text status old results goes_on new = ReceivesResults (λ (out : W). None) text status old results goes_on new
 

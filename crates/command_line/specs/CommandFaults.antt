@@ -21,7 +21,7 @@ IsReportedFor IsFound (Shown text) = (kind : ErrorKind) × IsFound kind × IsReq
 IsReportedFor IsFound (Mistake text) = (kind : ErrorKind) × IsFound kind × ¬ IsRequest kind
 IsReportedFor IsFound Memory = ⊤
 
--- the end of a program in such a fault: its exit status, and what is known of the output and of
+-- the end of a program in a fault of its words: its exit status, and the known output and
 -- standard error, before and after
 abbrev pub IsShown : ProgramName → CommandFault → ℕ → Option (List ℕ) → Option (List ℕ) → Bool
     → Option (List ℕ) → Option (List ℕ) → Type 0

@@ -27,7 +27,7 @@ IsWithin xs ys = (day : ℤ) → Contains xs day → Contains ys day
 
 -- ---- ascending lists with the same members
 
--- the first of each is the first of the other
+-- two ascending lists with the same elements have the same first element
 same_first : (x y : ℤ) (xs ys : List ℤ) → AllPairs Before (x ∷ xs) → AllPairs Before (y ∷ ys) → IsWithin (x ∷ xs) (y ∷ ys) → IsWithin (y ∷ ys) (x ∷ xs) → x ≡ y
 same_first x y xs ys up rising there back =
     elim (Contains-cons_cases y ys x (there x (Contains-here x xs))) [
