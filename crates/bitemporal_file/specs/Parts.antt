@@ -47,7 +47,7 @@ EndsAtSemicolon bytes =
 abbrev pub HasNoToken : List ℕ → Type 0
 HasNoToken bytes = TokensOf bytes []
 
--- more than blanks and comments, and no semicolon ends it
+-- the bytes are more than blanks and comments, and no semicolon ends them
 abbrev pub IsUnfinished : List ℕ → Type 0
 IsUnfinished bytes = IsOpen bytes × ¬ HasNoToken bytes
 
