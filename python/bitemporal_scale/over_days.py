@@ -60,7 +60,7 @@ from bitemporal_tools.sql.refusals import Refused
 
 FAULTS = (BadFolder, BadLines, BadReport, Disagreement, OSError, Refused, RefusedRows, RunFault,
           TooManyRows)
-WAITS = 4  # the status where reports are missing
+WAITS = 4  # the status if reports are missing
 
 
 def words(arguments: list[str]) -> argparse.Namespace:
