@@ -501,7 +501,7 @@ class Model:
                 versions.append(version)
                 continue
             count += 1
-            if since != self.clock:  # else it would end as it begins, and doesn't stay
+            if since != self.clock:  # else it would end as it begins, and isn't kept
                 versions.append([values, start, end, since, self.clock])
             pieces = [(values, start, begin), (values, stop, end)]
             pieces += [(new, max(start, begin), min(end, stop)) for new in made(values)]

@@ -44,7 +44,7 @@ pub same_refusal : (refusal other : Refusal) → Script refusal ≡ Script other
 same_refusal refusal other is = cc
 
 module _ {W K : Type 0} (contents : W → Option (List ℕ)) (text : ℕ → K → List ℕ) (status : K → ℕ) where
-  -- a run that a fault ended before any script
+  -- nothing was run
   pub none_run : (readers : List (Option (List ℕ))) (old : Reporter W) (next : ℕ) (fault : RunFault) → old.fault ≡ None → ((refusal : Refusal) → fault ≡ Script refusal → MayRefuseNext {K = K} readers [] refusal) →
       Ends contents text status readers old [] (Err fault) (record old { next = next })
   none_run readers old next fault quiet may = record {
@@ -62,7 +62,7 @@ module _ {W K : Type 0} (contents : W → Option (List ℕ)) (text : ℕ → K �
       is_fault : (refusal : Refusal) → ◌≡◌ {A = Result Bool RunFault} (Err fault) (Err (Script refusal)) → fault ≡ Script refusal
       is_fault refusal is = cc
 
-  -- a run before its first script
+  -- no script was named yet
   pub none_yet : (old : Reporter W) → old.fault ≡ None → Ends {K = K} contents text status [] old [] (Ok true) old
   none_yet old quiet = record {
     stops = refl;
@@ -129,7 +129,7 @@ module _ {W K : Type 0} (contents : W → Option (List ℕ)) (text : ℕ → K �
   faulty_flow false old new results fault is told = (told.off refl).0
   faulty_flow true old new results fault is told = rw (told.on refl).0 tt
 
-  -- a script whose report met a fault
+  -- a script whose report met one
   pub one_faulty : (known : Option (List ℕ)) (script : List ℕ) (old : Reporter W) (results : List K) (goes_on : Bool) (new : Reporter W) (fault : RunFault) → new.fault ≡ Some fault → ReceivesResults contents text status (record old { next = 1 }) results goes_on new →
       Ends contents text status (known ∷ []) old (one script results goes_on) (Err fault) new
   one_faulty known script old results goes_on new fault is told =
