@@ -13,7 +13,7 @@ import datetime
 
 # Statements. Their lists are tuples. A literal is an int, a str, a date, or a BadDate.
 
-# INTEGER, VARCHAR, DATE or TIMESTAMP; the n of VARCHAR(n), where None is 0, or the p of
+# INTEGER, VARCHAR, DATE or TIMESTAMP; the n of VARCHAR(n), in which None is 0, or the p of
 # TIMESTAMP(p) or None; START or END of GENERATED ALWAYS AS ROW, or None.
 Column = collections.namedtuple('Column', 'name kind number generated')
 Period = collections.namedtuple('Period', 'name start end')  # the name may be SYSTEM_TIME
@@ -57,7 +57,7 @@ REFUSALS = {
     27: 'PeriodColumn', 28: 'BadDefinition', 29: 'ColumnCount', 30: 'TypeMismatch',
     31: 'TextTooLong', 40: 'MomentBack', 41: 'EmptyPeriod', 42: 'KeyOverlap',
     43: 'PeriodReference', 62: 'Store'}
-# A moment is as reports print it: nineteen characters, and where its fraction of a second is
+# A moment is as reports print it: nineteen characters, and if its fraction of a second is
 # not zero, a point and six digits. So moments compare as their texts do.
 FOREVER = '9999-12-31 23:59:59.999999'
 # Moments in order, and texts of none. FOREVER is none of a clock, nor of AS OF.
@@ -501,7 +501,7 @@ class Model:
                 versions.append(version)
                 continue
             count += 1
-            if since != self.clock:  # else it would end as it begins, and doesn't stay
+            if since != self.clock:  # else it would end as it begins, and isn't kept
                 versions.append([values, start, end, since, self.clock])
             pieces = [(values, start, begin), (values, stop, end)]
             pieces += [(new, max(start, begin), min(end, stop)) for new in made(values)]

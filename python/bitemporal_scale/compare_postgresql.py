@@ -34,7 +34,7 @@ class NotCompared(Exception):
 
 
 def ours(script: bytes) -> bytes:
-    """The report of `bitemporal run`, or what it says where it refuses the whole script."""
+    """The report of `bitemporal run`, or what it says if it refuses the whole script."""
     ran = subprocess.run([program.path(), 'run'], input=script, stdout=subprocess.PIPE,
                          stderr=subprocess.PIPE, check=False)
     if ran.returncode == 2:

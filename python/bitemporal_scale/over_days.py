@@ -32,7 +32,7 @@ in the folder and prints the script's. If some slices refuse a statement that th
 it takes the statement out of those, removes their reports, and names them: run them once more, and
 join again.
 
-The exit status is as of `bitemporal run`: 0, 1 if a statement was refused, 3 if an audit
+The exit status is as for `bitemporal run`: 0, 1 if a statement was refused, 3 if an audit
 does not agree, 2 if there is no report; and 4 if --join waits for reports.
 """
 import argparse
@@ -60,7 +60,7 @@ from bitemporal_tools.sql.refusals import Refused
 
 FAULTS = (BadFolder, BadLines, BadReport, Disagreement, OSError, Refused, RefusedRows, RunFault,
           TooManyRows)
-WAITS = 4  # the status where reports are missing
+WAITS = 4  # the status if reports are missing
 
 
 def words(arguments: list[str]) -> argparse.Namespace:

@@ -25,7 +25,7 @@ MOST_LETTERS = 10_000  # of a call
 @dataclasses.dataclass
 class Level:
     """A parenthesis that is open, or the whole: the places of its begin, of its AS and of the last
-    sign - or + whose right operand has not ended, 0 where there is none."""
+    sign - or + whose right operand has not ended, 0 if there is none."""
     begin: int = 0
     as_at: int = 0
     sign: int = 0

@@ -14,7 +14,7 @@ Answers are of sequenced and of stored queries. Without --audit nothing is said 
     --store STORE  runs the script by `bitemporal_file` over the store in the file STORE
     --audit        is passed on to the program, as each other word is that begins with -
 
-Without FILE, or if it is -, standard input is read. The exit status is as of `bitemporal run`:
+Without FILE, or if it is -, standard input is read. The exit status is as for `bitemporal run`:
 0, or 1 if a statement was refused, 2 if the script or the command line was, and 3 if an
 audit did not agree. It is 2 too if FILE cannot be read; a line says which and why.
 """

@@ -14,7 +14,7 @@ what to do. Changes are recorded at the system's time, as bitemporal_file has it
     Ctrl-C   drops what is written and not yet sent. While a statement runs, it says so; a second
              one kills the program, and the store is then as before the statement or after it
 
-STORE, --audit and --stop are as of bitemporal_file, whose exit status this has: 0; 1 if a
+STORE, --audit and --stop are as for bitemporal_file, whose exit status this has: 0; 1 if a
 statement was refused; 3 if an audit did not agree; 2 in a fault, which is reported; and 130
 if it was killed.
 """

@@ -115,7 +115,7 @@ DROP TABLE DEP CASCADE
         self.assertNotIn('FOREIGN', self.altered(store, '--script', cascade)['tables.sql'])
 
     def test_versions_that_become_equal(self) -> None:
-        """Equal versions stay two, where they begin at two moments or meet."""
+        """Equal versions stay two, if they begin at two moments or meet."""
         store = self.made('pay.store', PAY)
         self.assertEqual(self.altered(store, '--drop', 'PAY.CENTS')['PAY.csv'], '''ENO,S,E,SS,SE
 101,2024-01-01,9999-12-31,2024-01-10 09:00:00,2024-06-20 09:00:00.250000

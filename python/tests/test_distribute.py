@@ -5,7 +5,7 @@ servers if PostgreSQL is installed.
 The variables SEED and COUNT choose other random scripts.
 
 The rule: random tables are cut into parts by a function of their columns of distribution, random
-queries are run over each part and over the whole, and where the rule lets a query through the
+queries are run over each part and over the whole, and if the rule lets a query through the
 answers of the parts are together the answer.
 """
 import contextlib

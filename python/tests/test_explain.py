@@ -68,7 +68,7 @@ class Explain(Case):
                            run(words, (ROOT / report).read_bytes()), (0, wanted, b''))
 
     def test_empty_reports(self) -> None:
-        """Nothing to explain where there is no statement; the place where the whole script is
+        """Nothing to explain if there is no statement; the place where the whole script is
         refused."""
         for text, said in (
                 ('-- nothing;\n', ''), ("SELECT 'open", ':1:8: the whole script: 3 BadToken\n'),

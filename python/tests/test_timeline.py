@@ -1,5 +1,5 @@
 #!/usr/bin/env python3
-"""Tests tools/timeline: places and widths of what is drawn, what it says where there is too much,
+"""Tests tools/timeline: places and widths of what is drawn, what it says if there is too much,
 and in a browser, if Chromium exists, that no text is cut or covers another. The last line is
 'N passed, M failed'."""
 import datetime

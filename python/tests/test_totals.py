@@ -105,7 +105,7 @@ DEPT,COUNT,SUM_PAY,valid_from,valid_to
 """, ''))
 
     def test_fewest_periods(self) -> None:
-        """A count alone goes on where only the sum changes, and a sum where only the count does."""
+        """A count alone goes on if only the sum changes, and a sum if only the count does."""
         self.assertEqual(self.printed('--by', 'DEPT', '--count')[1].splitlines()[3:5], [
             '"a, b",1,2024-01-01,2024-02-01', '"a, b",2,2024-02-01,2024-04-01'])
         self.assertEqual(self.printed('--sum', 'PAY', '--in', '2023')[1], """\

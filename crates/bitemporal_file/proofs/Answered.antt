@@ -13,12 +13,12 @@ use Rattle.command_line.specs.declared.fault.RunFault.TheVariants.{Script}
 use Rattle.bitemporal_file.specs.Commands.{IsAnswer, Makes, MayStop, asked_in, cause_of, done_line, file_in, makes_file, refusal_for, refused_line, report_of, word_in}
 use Rattle.bitemporal_file.specs.Copies.{IsBackupFault, IsFileOf}
 
--- a fact of a text is one of the text that is given
+-- a property of a text holds of the text that a result gives
 pub of_text : {V E : Type 0} (items : V → List ℕ) (result : Result V E) (wanted : List ℕ) (Q : List ℕ → Type 0) → IfOk result (λ text. items text ≡ wanted) → Q wanted → IfOk result (λ text. Q (items text))
 of_text items (Ok text) wanted Q is holds = subst Q (sym is) holds
 of_text items (Err error) wanted Q is holds = tt
 
--- the answer without memory for it, which then is not given
+-- the answer to a command that memory refuses, which is not given
 unheard_by : (asked : Option SessionCommand) → List ℕ → List ℕ
 unheard_by None word = refused_line word Syntax []
 unheard_by (Some command) word = refused_line word Memory []
@@ -26,7 +26,7 @@ unheard_by (Some command) word = refused_line word Memory []
 pub unheard : List ℕ → List ℕ
 unheard line = unheard_by (asked_in line) (word_in line)
 
--- a command may be stopped by such a refusal
+-- a command may be stopped by a refusal of the store
 pub may_stop : (command : SessionCommand) (refusal : Refusal) → IsStoreRefusal refusal → MayStop command (Script refusal)
 may_stop Tables refusal may = may
 may_stop Clock refusal may = may

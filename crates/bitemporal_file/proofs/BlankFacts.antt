@@ -52,7 +52,7 @@ comment-ends (byte ∷ bytes) = elim (cases_Bool (byte == line_feed)) [
   | inr is ↦ rw is (comment-ends bytes)
 ]
 
--- bytes are no blanks if their first lexeme is another one
+-- bytes are no blanks if their first lexeme is neither blank nor a comment
 not-blank : (word digit text pair symbol : Bool) (w d n : ℕ) (size : Option ℕ) →
     (if word then front.Lexeme Word w else if digit then front.Lexeme Number d else if text then text_of_size size else if pair then front.Lexeme Symbol 2 else if symbol then front.Lexeme Symbol 1 else front.Bad) ≡ front.Blank n → ⊥
 not-blank true digit text pair symbol w d n size is = cc
@@ -118,7 +118,7 @@ first-blank (byte ∷ rest) n is = elim (cases_Bool (is_blank byte)) [
   ]
 ]
 
--- bytes without a token are blanks and comments, and these have none
+-- bytes whose tokens are none are blanks and comments
 no_token-blank : {at : ℕ} {bytes : List ℕ} {tokens : List Lexeme} → TokensFrom at bytes tokens → tokens ≡ [] → is_all_blank Outside bytes ≡ true
 no_token-blank lexis.TokensFrom.ended none = refl
 no_token-blank (lexis.TokensFrom.blank {bytes = bytes} n first rest) none = first-blank bytes n first ∙ no_token-blank rest none
@@ -224,7 +224,7 @@ none-blank bytes none =
     no_rest : (place : Place) → is_rest place ≡ true → place ≡ AfterDash → ⊥
     no_rest place rest is = let no : is_rest AfterDash ≡ true = subst (λ p. is_rest p ≡ true) is rest in cc
 
--- bytes with one more byte are blank if they are, and it is
+-- bytes with one more byte are blank if the bytes are, and the byte is
 are_blank-more : (place : Place) (bytes : List ℕ) (byte : ℕ) → are_blank_from place (bytes ++ byte ∷ []) ≡ (are_blank_from place bytes && is_blank_at (place_after_all place bytes) byte)
 are_blank-more place [] byte = and_true (is_blank_at place byte)
   where

@@ -35,7 +35,7 @@ undashed place starts (byte ∷ bytes) begins first = undashed (place_after plac
 pub command-begins : (starts : Bool) (front : List ℕ) → is_blank_so_far front ≡ true → begins_line starts front ≡ true → CommandBegins starts front
 command-begins starts front blank begins = (blank-none front blank (undashed Outside starts front begins (λ on is. cc)), begins)
 
--- a dot within these bytes is within those before the last, or is the last
+-- a dot in a text is its last byte, or is in the text without that byte
 last-dot : (all : List ℕ) (byte : ℕ) (front rest : List ℕ) → all ++ byte ∷ [] ≡ front ++ dot ∷ rest → ((all ≡ front) × (byte ≡ dot)) ⊎ ((more : List ℕ) × (all ≡ front ++ dot ∷ more))
 last-dot [] byte [] rest is = let same : byte ≡ dot = cc in inl (refl, same)
 last-dot [] byte (first ∷ front) rest is = absurd (omega (arith, ap length is, length-append front (dot ∷ rest)))

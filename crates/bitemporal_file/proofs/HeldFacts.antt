@@ -8,7 +8,7 @@ use Rattle.sqlite.specs.Files.{Finds as FindsFiles, file_state, image_of}
 use Rattle.sqlite.specs.Held.{Held}
 use Rattle.sqlite.specs.Start.{FindsIn}
 
--- findings in files are findings in what they hold
+-- findings in files are findings in their contents
 module _ {D : Type 0} {g : Ghosts D} where
   pub found_in : (image : Image) (files : Files D) (c : Held (FileStore D g)) → image_of g files ≡ image → FindsFiles files c → FindsIn image (file_state c)
   found_in image files c is found =

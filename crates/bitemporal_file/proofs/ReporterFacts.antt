@@ -79,7 +79,7 @@ module _ {W K : Type 0} (contents : W → Option (List ℕ)) (text : ℕ → K �
       let silent : middle.fault ≡ None = (told.on refl).0 ∙ quiet in
       next_recorded old result middle results goes_on new quiet told (all_recorded (n + 1) middle results goes_on new silent rest)
 
-  -- a reporter receives one result alone
+  -- one result alone
   pub one_recorded : (old : Reporter W) (result : K) (goes_on : Bool) (new : Reporter W) → old.fault ≡ None → ReceivesResult contents text status old result goes_on new → ReceivesResults contents text status old (result ∷ []) goes_on new
   one_recorded old result false new quiet told = last_recorded old result new quiet told
   one_recorded old result true new quiet told = next_recorded old result new [] true new quiet told (none_recorded new ((told.on refl).0 ∙ quiet))

@@ -25,7 +25,7 @@ use Rattle.bitemporal_file.proofs.ReporterFacts.{greatest-more, refusal-more}
 
 -- ---- one script
 
--- why a script was not read is no refusal
+-- the fault of a script that was not read is no refusal
 pub read_fault_is_plain : (has_failed : Bool) (fault : RunFault) (refusal : Refusal) → (fault ≡ Memory) ⊎ ((fault ≡ Read) × (has_failed ≡ true)) → fault ≡ Script refusal → ⊥
 read_fault_is_plain has_failed fault refusal (inl memory) is = cc
 read_fault_is_plain has_failed fault refusal (inr (read, failed)) is = cc
@@ -35,7 +35,7 @@ pub read_bytes : (known : Option (List ℕ)) (script items : List ℕ) → scrip
 read_bytes None script items same bytes = tt
 read_bytes (Some all) script items same bytes = same ∙ bytes
 
--- the refusal of a script is one of the bytes that the reader has
+-- the refusal of a script that was read is a refusal of the reader's bytes
 pub read_refusal : (known : Option (List ℕ)) (script items : List ℕ) (refusal : Refusal) → script ≡ items → IfSome known (λ all. items ≡ read_of most_bytes all) → MayRefuseScript script refusal → IfSome known (λ all. MayRefuseScript (read_of most_bytes all) refusal)
 read_refusal None script items refusal same bytes may = tt
 read_refusal (Some all) script items refusal same bytes may = subst (λ (text : List ℕ). MayRefuseScript text refusal) (same ∙ bytes) may
@@ -44,7 +44,7 @@ pub same_refusal : (refusal other : Refusal) → Script refusal ≡ Script other
 same_refusal refusal other is = cc
 
 module _ {W K : Type 0} (contents : W → Option (List ℕ)) (text : ℕ → K → List ℕ) (status : K → ℕ) where
-  -- a run that a fault ended before any script
+  -- nothing was run
   pub none_run : (readers : List (Option (List ℕ))) (old : Reporter W) (next : ℕ) (fault : RunFault) → old.fault ≡ None → ((refusal : Refusal) → fault ≡ Script refusal → MayRefuseNext {K = K} readers [] refusal) →
       Ends contents text status readers old [] (Err fault) (record old { next = next })
   none_run readers old next fault quiet may = record {
@@ -62,7 +62,7 @@ module _ {W K : Type 0} (contents : W → Option (List ℕ)) (text : ℕ → K �
       is_fault : (refusal : Refusal) → ◌≡◌ {A = Result Bool RunFault} (Err fault) (Err (Script refusal)) → fault ≡ Script refusal
       is_fault refusal is = cc
 
-  -- a run before its first script
+  -- no script was named yet
   pub none_yet : (old : Reporter W) → old.fault ≡ None → Ends {K = K} contents text status [] old [] (Ok true) old
   none_yet old quiet = record {
     stops = refl;

@@ -45,16 +45,16 @@ one_read (byte ∷ []) count size low some =
     ap (λ n. take n (byte ∷ [])) one
 one_read (byte ∷ next ∷ bytes) count size low some = let no : ⊥ = omega arith in absurd no
 
--- a read of nothing takes nothing
+-- a read of no bytes takes none
 pub taken-nothing : (a b c : Option (List ℕ)) (taken none : List ℕ) → Consumes a b taken → Consumes b c none → none ≡ [] → Consumes a c taken
 taken-nothing a b c taken none first last empty =
     subst (Consumes a c) (append-nil taken) (Consumes-trans a b c taken [] first (subst (Consumes b c) empty last))
 
--- a read that is tried again took nothing before
+-- a read that is tried again has taken no bytes before
 pub kept-taken : (a b c : Option (List ℕ)) (taken : List ℕ) → Keeps a b → Consumes b c taken → Consumes a c taken
 kept-taken a b c taken kept took = Consumes-trans a b c [] taken (Consumes-kept a a b [] (Consumes-nil a) kept) took
 
--- the bytes read up to the end of an input are all of it
+-- the bytes read up to the end of an input are the whole input
 pub all-read : (P : List ℕ → Type 0) (a b c : Option (List ℕ)) (all : List ℕ) → Consumes a b all → Consumes b c [] → IsAtEnd c → P all → IfSome a P
 all-read P None b c all first last end holds = tt
 all-read P (Some xs) None c all first last end holds = absurd first
@@ -105,7 +105,7 @@ module _ {K : Type 0} where
   stopped runs (Ran run) ended fault wholes off = more_ran runs (run ∷ []) ended fault wholes (one_ran run ended fault (λ quiet on. absurd (off quiet on)))
   stopped runs (LineAnswered bytes line told) ended fault wholes off = subst (λ (all : List (ScriptRun K)). AreRun all ended fault) (sym (append-nil runs)) (all_ran runs ended fault wholes)
 
-  -- a session that ended with this turn
+  -- a session that ended with the last of these turns
   pub stopped_turn : (turns : List (Turn K)) (turn : Turn K) (ended : Result Bool RunFault) (fault : Option RunFault) → All IsWhole (runs_of turns) → (fault ≡ None → ended ≢ Ok false → ⊥) → AreRun (runs_of (turns ++ turn ∷ [])) ended fault
   stopped_turn turns turn ended fault wholes off =
       subst (λ (runs : List (ScriptRun K)). AreRun runs ended fault) (sym (runs-one turns turn)) (stopped (runs_of turns) turn ended fault wholes off)
@@ -167,7 +167,7 @@ module _ {K : Type 0} where
   Heard {W} text status old results goes_on new = ReceivesResults (λ (out : W). None) text status old results goes_on new
 
   module _ {W : Type 0} (contents : W → Option (List ℕ)) (text : ℕ → K → List ℕ) (status : K → ℕ) where
-    -- a reporter receives a part's results
+    -- a part is reported
     pub ran_heard : (old : Reporter W) (run : ScriptRun K) (goes_on : Bool) (new : Reporter W) → ReceivesResults contents text status old run.results goes_on new → ReceivesTurn contents text status old (Ran run) goes_on new
     ran_heard old run goes_on new told = record {
       results = record {
@@ -182,7 +182,7 @@ module _ {K : Type 0} where
       written = λ none. (told.written none).0;
     }
 
-    -- a reporter receives the answer to a command's line
+    -- a command's line is answered
     pub line_received : (old : Reporter W) (out : W) (fault : Option RunFault) (bytes line told : List ℕ) (goes_on : Bool) → old.fault ≡ None → (goes_on ≡ true → Appends (contents old.out) (contents out) told) → (goes_on ≡ true → fault ≡ None) → (goes_on ≡ false → IsSome fault × IfSome fault IsReportFault) →
         ReceivesTurn contents text status old (LineAnswered bytes line told) goes_on (record old { out = out; fault = fault })
     line_received old out fault bytes line told true quiet wrote none some = record {
@@ -255,7 +255,7 @@ module _ {K : Type 0} where
           ];
     }
 
-    -- a session ended by a fault that is none of the report
+    -- by a fault that is none of the report
     pub failed_heard : (old : Reporter W) (turns : List (Turn K)) (goes_on : Bool) (fault : RunFault) (new : Reporter W) → new.fault ≡ None → Heard text status old (all_results turns) goes_on new → Written old turns new → EndsWith contents text status old turns (Err fault) new
     failed_heard old turns goes_on fault new quiet told wrote =
         ends_heard old turns goes_on (Err fault) new told wrote (rw quiet tt) (λ flow is. let no : ⊥ = cc in absurd no)
@@ -264,12 +264,12 @@ module _ {K : Type 0} where
     report_fault old turns goes_on fault new is told =
         its_own (λ (out : W). None) text status new.fault fault is (faulty_flow (λ (out : W). None) text status goes_on old new (all_results turns) fault is told)
 
-    -- a session ended by a fault of the report
+    -- by a fault of the report
     pub faulty_heard : (old : Reporter W) (turns : List (Turn K)) (goes_on : Bool) (fault : RunFault) (new : Reporter W) → new.fault ≡ Some fault → Heard text status old (all_results turns) goes_on new → Written old turns new → EndsWith contents text status old turns (Err fault) new
     faulty_heard old turns goes_on fault new is told wrote =
         ends_heard old turns goes_on (Err fault) new told wrote (its_fault (λ (out : W). None) text status new.fault fault is (faulty_flow (λ (out : W). None) text status goes_on old new (all_results turns) fault is told)) (λ flow same. let no : ⊥ = cc in absurd no)
 
-    -- a reporter without a fault has written all turns
+    -- without a fault
     pub quiet_heard : (old : Reporter W) (turns : List (Turn K)) (goes_on : Bool) (new : Reporter W) → new.fault ≡ None → Heard text status old (all_results turns) goes_on new → Written old turns new → EndsWith contents text status old turns (Ok goes_on) new
     quiet_heard old turns goes_on new quiet told wrote =
         ends_heard old turns goes_on (Ok goes_on) new told wrote (rw quiet tt) (λ flow is. let same : flow ≡ goes_on = cc in (same, quiet))
@@ -334,7 +334,7 @@ module _ {S K W : Type 0} (g : Ghosts S) (IsStep : History → List Lexeme → K
       (refused (placed_at start refusal) ∷ [], told, inr (refusal, may, refl, same), λ usable history stands. (history, inr (refusal, may, refl, refl), subst (EngineRepresents g history) (sym same) stands))
 
 module _ {S K W : Type 0} (g : Ghosts S) (made : List ℕ → List ℕ → Type 0) (IsStep : History → List Lexeme → K → History → Type 0) (IsStepOver : EngineState S → List Lexeme → K → EngineState S → Type 0) (refused : Refusal → K) (contents : W → Option (List ℕ)) (text : ℕ → K → List ℕ) (status : K → ℕ) where
-  -- a turn was made, and the reporter has received it
+  -- a turn was made
   abbrev pub Turned : Reporter W → Reporter W → EngineState S → EngineState S → ℕ → Bool → List ℕ → Option (List ℕ) → Bool → Bool → Type 0
   Turned old new before after start starts bytes left commands goes_on =
       (turn : Turn K) × (bytes_in turn ≡ bytes) × IsTurn starts turn left × (ends_line turn ≡ commands)

@@ -11,7 +11,7 @@ use Rattle.bitemporal_file.specs.StoreRuns.{RunsGiven, RunsScripts, RunsSession}
 use Rattle.bitemporal_file.specs.declared.reporter.Reporter.{Reporter}
 
 module _ {E K W X : Type 0} (IsStep : History → List Lexeme → K → History → Type 0) (IsStepOver : E → List Lexeme → K → E → Type 0) (Tell : History → List ℕ → List ℕ → History → Type 0) (TellOver : E → List ℕ → List ℕ → E → Type 0) (refused : Refusal → K) (contents : W → Option (List ℕ)) (text : ℕ → K → List ℕ) (status : K → ℕ) (First : (History → History → Type 0) → Type 0) (FirstOver : (E → E → Type 0) → Type 0) where
-  -- a program without scripts runs a session
+  -- no script is named
   pub given_session : (bytes : X → List ℕ) (content : List ℕ → Option (List ℕ)) (files : List X) (known : Option (List ℕ)) (failed : Bool) (old : Reporter W) (ended : Result Bool RunFault) (new : Reporter W) → (length files == 0) ≡ true → RunsSession IsStep IsStepOver Tell TellOver refused contents text status First FirstOver known failed old ended new →
       RunsGiven IsStep IsStepOver Tell TellOver refused contents text status First FirstOver (map content (map bytes files)) known failed old ended new
   given_session bytes content [] known failed old ended new none run = run
@@ -19,7 +19,7 @@ module _ {E K W X : Type 0} (IsStep : History → List Lexeme → K → History 
       let is : length (file ∷ files) ≡ 0 = eqb-true (length (file ∷ files)) 0 none in
       absurd (omega (arith, is))
 
-  -- a program with scripts runs these
+  -- one is
   pub given_scripts : (bytes : X → List ℕ) (content : List ℕ → Option (List ℕ)) (files : List X) (known : Option (List ℕ)) (failed : Bool) (old : Reporter W) (ended : Result Bool RunFault) (new : Reporter W) → (length files == 0) ≡ false →
       RunsScripts IsStep IsStepOver Tell TellOver refused contents text status First FirstOver (map content (map bytes files)) old ended new → RunsGiven IsStep IsStepOver Tell TellOver refused contents text status First FirstOver (map content (map bytes files)) known failed old ended new
   given_scripts bytes content [] known failed old ended new some run = let no : ⊥ = cc in absurd no

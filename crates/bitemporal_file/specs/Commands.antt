@@ -149,7 +149,7 @@ MayStop Backup fault = IsBackupFault fault
 MayStop _ (fault.Script refusal) = IsStoreRefusal refusal
 MayStop _ _ = ⊥
 
--- a command is refused for such a fault, or since the name of its file is no UTF-8
+-- a command is refused for a fault of its work, or since the name of its file is no UTF-8
 abbrev pub IsRefusedFor : List ℕ → SessionCommand → Refusal → List ℕ → Type 0
 IsRefusedFor line command refusal cause =
     ((stopped : RunFault) × MayStop command stopped

@@ -47,7 +47,7 @@ EndsAtSemicolon bytes =
 abbrev pub HasNoToken : List ℕ → Type 0
 HasNoToken bytes = TokensOf bytes []
 
--- more than blanks and comments, and no semicolon ends it
+-- the bytes are more than blanks and comments, and no semicolon ends them
 abbrev pub IsUnfinished : List ℕ → Type 0
 IsUnfinished bytes = IsOpen bytes × ¬ HasNoToken bytes
 
@@ -72,7 +72,7 @@ IsUnread failed fault = (fault ≡ Read) × (failed ≡ true)
 
 -- ---- the lines of commands
 
--- the byte with which such a line begins
+-- the byte with which the line of a command begins
 abbrev pub dot : ℕ
 dot = 46
 
@@ -111,7 +111,7 @@ pub record IsCommandLine (starts : Bool) (bytes kept : List ℕ) (left : Option 
     pub ended : IsLineUpTo line end left
     pub kept_of : IsKeptOf line kept
 
--- the rest of such a line was read, after so many bytes
+-- the rest of the line of a command was read, after so many bytes
 pub record IsRestOfLine (before : ℕ) (known left : Option (List ℕ)) (read : CommandLine) : Type 0
   where
     pub line : List ℕ

@@ -50,7 +50,7 @@ pub record ReceivesResult {W K : Type 0} (contents : W → Option (List ℕ)) (t
   -- the greatest status so far
   pub worst : new.worst ≡ max old.worst (status kept)
   pub low : old.worst ≤ 3 → new.worst ≤ 3
-  -- if there is no fault, its records are written, numbered on, and nothing else
+  -- without a fault its records are written, numbered on, and nothing else
   pub written : new.fault ≡ None
       → Appends (contents old.out) (contents new.out) (text old.next kept)
       × (new.next ≡ old.next + 1)

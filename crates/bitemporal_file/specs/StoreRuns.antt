@@ -70,7 +70,7 @@ pub record RefusesStore {S : Type 0} (g : Ghosts S) (opened : Held S) (refusal :
 -- a run of results of this kind: the step of a history that each is, and that of an engine,
 -- whatever its database holds; what a command does in a history, and what over an engine; what is
 -- reported of a statement that is refused as it is read; the records of each, and its exit status.
--- The steps of a history lead so, and the steps of an engine
+-- The steps of a history lead so, and those of an engine
 module _ {E K W : Type 0} (IsStep : History → List Lexeme → K → History → Type 0)
     (IsStepOver : E → List Lexeme → K → E → Type 0)
     (IsAnswered : History → List ℕ → List ℕ → History → Type 0)
@@ -133,7 +133,7 @@ module _ {S K W : Type 0} (g : Ghosts S) (made : List ℕ → List ℕ → Type 
       (timed_refusal refused) contents (λ number timed. text number timed.kept)
       (λ timed. status timed.kept)
 
--- a run with an audit of each answer, or without; where the system makes files
+-- with an audit of each answer, or without; where the system makes files
 abbrev pub RunsAs : {S W : Type 0} → Ghosts S → (List ℕ → List ℕ → Type 0)
     → (W → Option (List ℕ)) → (audits timed : Bool)
     → List (Option (List ℕ)) → Option (List ℕ) → Bool → Reporter W → Held S
@@ -146,8 +146,8 @@ RunsAs g made contents true =
     contents entry_text entry_status
 
 -- a store that is opened and left, and the run in between, or that nothing was run; if it is
--- used, its connection was usable as it was opened if it is so as it is left, and the other tables
--- of its database are as they were
+-- used, its connection was usable as it was opened if it is so as it is left, and others have in
+-- its database what they had
 abbrev pub Uses : {S T W : Type 0} → Ghosts S → Filing S → (Reporter W → Type 0)
     → (Held S → Result T RunFault → Held S → Reporter W → Type 0)
     → Result ℕ RunFault → Reporter W → Type 0

@@ -138,7 +138,7 @@ impl<K: Reported> Reported for Timed<K> {
     }
 }
 
-/// A report that is written during the run, and what the run has come to.
+/// A report that is written as the run goes, and what the run has come to.
 #[derive(Drop)]
 pub struct Reporter<W> {
     pub(crate) alloc: Global,

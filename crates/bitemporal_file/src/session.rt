@@ -43,7 +43,7 @@ fn placed(start: usize, refusal: Refusal) -> Option<Refusal>
 }
 
 // Reports that a part that begins at this byte is refused as a whole, as the refusal of one
-// statement. Says whether the session continues.
+// statement. Says whether the session goes on.
 fn refuse_part<K: Reported + Drop, W: Write>(
     start: usize,
     refusal: Refusal,
@@ -91,7 +91,7 @@ fn run_whole<S: Alter, K: PieceResult<S> + Reported + Drop, C: Clock, W: Write>(
     }
 }
 
-// Does what the line of a command asks for, and writes its answer. Says whether that met no fault.
+// Does what the line of a command asks for, and tells it. Says whether that met no fault.
 fn run_command<S: Alter, C: System, W: Write>(
     alloc: Global,
     engine: &mut Engine<S>,

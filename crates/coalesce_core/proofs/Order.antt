@@ -1,4 +1,4 @@
--- The order of answer rows: it is total, and what it says of rows of the same values.
+-- The order of answer rows: a total order, and its meaning for rows of the same values.
 use Rattle.std.proofs.Common.{◌≡◌, ◌<ℤ◌, ◌≤ℤ◌, ℕ, zero, suc, ◌+◌, ◌<◌, ◌≤◌, false, true, refl, sym, ◌∙◌, ap, subst, inl, inr, arith, List, Ordering, get_or, length, add-one}
 use Rattle.std.specs.List.{AllPairs}
 use Rattle.std.specs.List.Sorted.{IsSorted}
@@ -32,7 +32,7 @@ is_lt-reverse Greater = refl
 pub flip : (a b : PeriodRow) → is_lt (answer_cmp b a) ≡ is_gt (answer_cmp a b)
 flip a b = ap is_lt (answer_cmp_total.antisymm b a) ∙ is_lt-reverse (answer_cmp a b)
 
--- a row that does not come after another, nor after one of the same values and first day
+-- a row that comes neither after one row nor after another of the same values and first day
 pub NotAfter-same_start :
     (a b c : PeriodRow) → a.values ≡ b.values → a.period.start ≡ b.period.start → NotAfter a c
     → NotAfter b c
@@ -115,7 +115,7 @@ PrecedesWithGap-upto a b c p upto =
           let wrong : is_lt (answer_cmp c b) ≡ true = ap is_lt first in cc)
     ] refl
 
--- each of the first n rows precedes the next one so
+-- each of the first n rows precedes the next one with a gap
 abbrev pub AreApart : List PeriodRow → ℕ → Type 0
 AreApart rows n = (k : ℕ) (d : PeriodRow) → k + 1 < n → PrecedesWithGap (get_or rows k d) (get_or rows (k + 1) d)
 
@@ -130,7 +130,7 @@ far_apart rows n near i (suc j) d lt below =
       | inr not_before ↦ let same : i ≡ j = omega arith in subst (λ m. PrecedesWithGap (get_or rows m d) (get_or rows (suc j) d)) (sym same) next
     ]
 
--- rows of which each precedes the next one so are a coalesced list
+-- rows each of which precedes the next one with a gap are a coalesced list
 pub coalesced_as_they_are : (rows : List PeriodRow) (n : ℕ) → length rows ≤ n → AreApart rows n → IsCoalesced rows
 coalesced_as_they_are rows n whole near i j d lt below = far_apart rows n near i j d lt (omega arith)
 

@@ -208,7 +208,7 @@ pub ordered_along :
 ordered_along s rows is up given t e =
     AllPairs-begin NotAfter given (into_iter_items t) (subst IsOrdered (sym is ∙ into_iter_gave s given t e) up)
 
--- all that a `Coalesce` over them gives
+-- all that a `Coalesce` over given rows gives
 pub coalesced_whole :
     (s : IntoIter PeriodRow Global) (rows answer : List PeriodRow) (count : ℕ)
     (it : Coalesce (IntoIter PeriodRow Global)) → into_iter_items s ≡ rows

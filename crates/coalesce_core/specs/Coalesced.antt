@@ -19,7 +19,7 @@ abbrev pub PrecedesWithGap : PeriodRow → PeriodRow → Type 0
 PrecedesWithGap a b =
     (answer_cmp a b ≡ Less) × (a.values ≡ b.values → a.period.end <ℤ b.period.start)
 
--- each row so precedes all later ones
+-- each row precedes all later ones with a gap
 abbrev pub IsCoalesced : List PeriodRow → Type 0
 IsCoalesced = AllPairs PrecedesWithGap
 

@@ -25,13 +25,13 @@ only_memory kinds fault none (inl memory) = memory
 only_memory [] fault none (inr among) = absurd among
 only_memory (kind ∷ kinds) fault none (inr among) = cc
 
--- a fault that is found is found among more
+-- a fault that is found is found by a wider test
 pub reported_wider : (IsFound IsWider : ErrorKind → Type 0) (fault : CommandFault) → ((kind : ErrorKind) → IsFound kind → IsWider kind) → IsReportedFor IsFound fault → IsReportedFor IsWider fault
 reported_wider IsFound IsWider (Shown text) wider (kind, found, request) = (kind, wider kind found, request)
 reported_wider IsFound IsWider (Mistake text) wider (kind, found, mistake) = (kind, wider kind found, mistake)
 reported_wider IsFound IsWider Memory wider told = tt
 
--- the fault that is reported for clap's is reported for what it finds
+-- the fault that is reported for clap's fault is reported for what clap finds
 pub fault_for_kinds : (kinds : Kinds) (IsWider : ErrorKind → Type 0) (error : Error) (fault : CommandFault) → HasKind kinds error → (kind_of error ≡ OutOfMemory → fault ≡ Memory)
     → IsReportedFor (λ kind. kind ≡ kind_of error) fault → ((kind : ErrorKind) → IsAmong kind kinds → IsWider kind) → IsReportedFor IsWider fault
 fault_for_kinds kinds IsWider error fault (inl none) memory told wider = subst (IsReportedFor IsWider) (sym (memory none)) tt

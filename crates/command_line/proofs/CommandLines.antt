@@ -93,7 +93,7 @@ read_audit program word (dashes ∷ name ∷ []) file (inl (flag, (are, named)))
 read_audit program word (dashes ∷ name ∷ other ∷ more) file (inl (flag, none)) = absurd none
 read_audit program word rest file (inr (flag, (plain, named))) = rw (flag, named) (named-audit_behind program word plain)
 
--- a line of the stated forms is read as what it asks for
+-- a line of the program's forms is read as what it asks for
 pub read_as : (words : List Text) (mode : Mode) (file : Option Text) → IsCommandLineFor words mode file → IsReadAs words mode file
 read_as [] mode file asks = absurd asks
 read_as (program ∷ []) mode file asks = absurd asks
@@ -139,7 +139,7 @@ mode_word name rows Run is = inl is.0
 mode_word name rows RunAudited is = inl is.0
 mode_word name rows Check is = inr is
 
--- the subcommand of matches that choose a mode has the name of one
+-- a subcommand that chooses a mode has the name of a mode
 pub chosen_word : {Z : Type 0} (met : Option (Box SubCommand Z)) (name : Text) (mode : Mode) (file : Option Text)
     → Some name ≡ option_map (λ b. (out-SubCommand (box_value b)).name.now) met → Chooses (subcommand_rows met) mode file
     → (name ≡ codes "run") ⊎ (name ≡ codes "check")

@@ -105,7 +105,7 @@ IsFree waiting = (waiting ≡ idle) ⊎ (waiting ≡ positional)
 abbrev IsFlagName : Text → Type 0
 IsFlagName name = IsOneOf name flag_names
 
--- a fact of each text of a list is one of any of them
+-- a property of each text of a list holds of any text in it
 each : (P : Text → Type 0) (texts : List Text) → AllByRecursion P texts → (text : Text) → IsOneOf text texts → P text
 each P [] rows text none = absurd none
 each P (one ∷ others) rows text (inl is) = rw is rows.0
@@ -688,7 +688,7 @@ not_set words flag other is_set hyphen apart writes alone asks set =
     let wrong : true ≡ false = sym set ∙ asks ∙ none in
     cc
 
--- nothing there calls for a run
+-- no word of the list calls for a run
 no_run : (words : List Text) (flag : Text) (asked : Request) → AllByRecursion (λ other. bytes_eq other flag ≡ false) (codes "--audit" ∷ codes "--stop" ∷ codes "--now" ∷ []) → ExcludesOthers flag words
     → AskFor words asked → NeedsRun asked → ⊥
 no_run words flag asked apart alone asks (inl audits) = not_set words flag (codes "--audit") asked.audits refl apart.0 refl alone asks.audits audits

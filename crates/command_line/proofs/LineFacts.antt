@@ -19,7 +19,7 @@ memory_is-second = refl
 pub joined : (a b c d e f g h : List ℕ) → a ++ (b ++ (c ++ (d ++ (e ++ (f ++ (g ++ h)))))) ≡ a ++ b ++ c ++ d ++ e ++ (f ++ g) ++ h
 joined a b c d e f g h = simp append_assoc
 
--- a fault that is reported without memory may be reported so
+-- the line of a fault without memory may report the fault
 pub may_without : (fault : RunFault) → MayBeReportedAs fault (without_memory fault)
 may_without (Script refusal) = inr (tt, refl)
 may_without Memory = inl refl

@@ -21,11 +21,11 @@ IsReportedFor IsFound (Shown text) = (kind : ErrorKind) × IsFound kind × IsReq
 IsReportedFor IsFound (Mistake text) = (kind : ErrorKind) × IsFound kind × ¬ IsRequest kind
 IsReportedFor IsFound Memory = ⊤
 
--- the end of a program in such a fault: its exit status, and what is known of the output and of
+-- the end of a program in a fault of its words: its exit status, and the known output and
 -- standard error, before and after
 abbrev pub IsShown : ProgramName → CommandFault → ℕ → Option (List ℕ) → Option (List ℕ) → Bool
     → Option (List ℕ) → Option (List ℕ) → Type 0
--- the text is on the output, or that was not written whole
+-- the output has the text, or it was not written whole
 IsShown program (Shown text) status out_old out_new err_failed err_old err_new =
     ((status ≡ 0) × Appends out_old out_new (string_bytes text) × (err_new ≡ err_old))
     ⊎ ((status ≡ 2) × IsReported err_failed err_old err_new (fault_line program run.Write))

@@ -55,7 +55,7 @@ IsMode chosen Run = (chosen.0 ≡ codes "run") × ¬ IsAudited chosen.1
 IsMode chosen RunAudited = (chosen.0 ≡ codes "run") × IsAudited chosen.1
 IsMode chosen Check = chosen.0 ≡ codes "check"
 
--- the mode and the file that it chooses
+-- the mode and the file that a subcommand chooses
 abbrev pub Chooses : Option (Text × List Row) → Mode → Option Text → Type 0
 Chooses None mode file = ⊥
 Chooses (Some chosen) mode file = IsMode chosen mode × (file ≡ first_of (codes "FILE") chosen.1)

@@ -104,7 +104,7 @@ arguments_of = drop 1
 abbrev pub names_in : List Text → List Text
 names_in words = filter (λ word. not (has_hyphen word)) words
 
--- the rest: the flags
+-- the words that begin with a hyphen: the flags
 abbrev pub flags_in : List Text → List Text
 flags_in words = filter has_hyphen words
 

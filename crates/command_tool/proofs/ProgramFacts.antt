@@ -46,7 +46,7 @@ silent_if_failed mode script read_failed failed Unfinished then may = may
 silent_if_failed mode script read_failed failed CopyThere then may = may
 silent_if_failed mode script read_failed failed CopyFailed then may = may
 
--- a run whose reader has failed if this one has
+-- a run that ends well does so also with a reader that has failed
 ends_if_failed : (r : ProgramRun) (failed : Bool) → (r.read_failed ≡ true → failed ≡ true) → EndsWell r → EndsWell (record r { read_failed = failed })
 ends_if_failed r failed then (bound, reported, faulty, refused) = (bound, reported, (λ status. go (faulty status)), refused)
   where

@@ -21,7 +21,7 @@ lt_earlier a b c le e = grind (arith, ints)
 not_forever : (a b c : ℤ) → a ≤ℤ b → int_le c b ≡ false → int_eq a c ≡ false
 not_forever a b c le e = grind (arith, ints)
 
--- two tests of which the second fails, and so does any third
+-- if the second of two tests fails, a test that implies it fails too
 fails : (a b c d : Bool) → (b ≡ false → c ≡ false) → a && b ≡ false → a && (c && d) ≡ false
 fails true true c d later e = absurd (let t : true ≡ false = e in cc)
 fails true false c d later e = ap (λ z. z && d) (later refl)

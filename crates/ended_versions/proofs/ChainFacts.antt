@@ -37,7 +37,7 @@ some_is p q e = ap (λ (o : Option ℕ). unwrap_or o p) e
 inside : (all : List ℕ) (bound hash : ℕ) (place : Option ℕ) (p : ℕ) → IsLastPlace all bound hash place → place ≡ Some p → p < bound
 inside all bound hash place p is e = (let within : p + 1 ≤ bound = subst (λ (o : Option ℕ). behind o ≤ bound) e is.within in omega (arith, within))
 
--- lists that agree before the bound have the same one
+-- lists that agree before the bound have the same last place of a hash
 along : (all other : List ℕ) (bound hash : ℕ) (place : Option ℕ) → ((k d : ℕ) → k < bound → get_or all k d ≡ get_or other k d) → IsLastPlace all bound hash place → IsLastPlace other bound hash place
 along all other bound hash place same is = record {
   within = is.within;
@@ -45,7 +45,7 @@ along all other bound hash place same is = record {
   only = λ k d from below e. is.only k d from below (same k d below ∙ e);
 }
 
--- a bound one greater, if the hash at the bound is another
+-- the last place before a bound that is one greater, if the hash at the bound is another
 higher : (all : List ℕ) (bound hash : ℕ) (place : Option ℕ) → ((d : ℕ) → get_or all bound d ≡ hash → ⊥) → IsLastPlace all bound hash place → IsLastPlace all (bound + 1) hash place
 higher all bound hash place none is = record {
   within = (let was = is.within in omega (arith, was));

@@ -131,7 +131,7 @@ hashes_kept positions list more hashes are =
       each = λ place d e v below columns same. are.each place d e v below columns (same ∙ get_or_append_left list more d place (omega (arith, was)));
     }
 
--- the hash of the next of them
+-- the hash of the next version
 pub hashes_more : (positions : List ℕ) (list : List PackedVersion) (hashes : List ℕ) (version : VersionRow) → AreHashes positions list hashes → length hashes < length list → OfColumns version
     → ((d : PackedVersion) → packed version ≡ get_or list (length hashes) d) → AreHashes positions list (hashes ++ hash_at positions version ∷ [])
 hashes_more positions list hashes version are inside held is =

@@ -98,7 +98,7 @@ seen_more bytes all before rest entry seen version same is one =
 
 -- ---- more versions
 
--- a list that holds versions, with more packed after it, holds these too
+-- a list that holds versions, followed by more packed ones, holds these too
 pub hold_more : (list : List PackedVersion) (versions more : List VersionRow) → Hold list versions → AreOfColumns more → Hold (list ++ map packed more) (versions ++ more)
 hold_more list versions more hold held = record {
   same = map-append packed versions more ∙ ap (λ ps. ps ++ map packed more) hold.same;

@@ -18,7 +18,7 @@ packed_in bytes entry = record {
   to = entry.to;
 }
 
--- whether the window sees it
+-- whether the window sees the entry's version
 abbrev pub is_seen : Window → VersionEntry → Bool
 is_seen window entry = window_sees window entry.from entry.to
 
@@ -28,12 +28,12 @@ pub record IsKept (bytes : List ℕ) (entry : VersionEntry) : Type 0 where
   pub within : entry.end ≤ length bytes
   pub spelled : IsEncoding (slice_range bytes entry.start entry.end)
 
--- the second ended no earlier, and its values come after the first one's
+-- the second entry ended no earlier, and its values come after the first one's
 pub record Precedes (first second : VersionEntry) : Type 0 where
   pub ended : first.to ≤ℤ second.to
   pub apart : first.end ≤ second.start
 
--- each precedes those after it
+-- each entry precedes those after it
 abbrev pub AreInOrder : List VersionEntry → Type 0
 AreInOrder = AllPairs Precedes
 

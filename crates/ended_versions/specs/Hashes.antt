@@ -9,7 +9,7 @@ use Rattle.period_core.specs.declared.version.VersionRow.{VersionRow}
 abbrev pub hash_byte : ℕ → ℕ → ℕ
 hash_byte hash byte = (hash * 257 + byte) % 4_294_967_291
 
--- more bytes, one after the other
+-- the hash of bytes with more bytes, one after the other
 abbrev pub hash_bytes : ℕ → List ℕ → ℕ
 hash_bytes = fold hash_byte
 

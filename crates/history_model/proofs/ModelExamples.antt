@@ -39,7 +39,7 @@ history = with_event (with_event (opened new_database) (Changed (pos 0) inserted
 abbrev ended : VersionRow
 ended = record { values = worker; period = period_over (pos 10) (pos 20) refl; from = pos 2; to = pos 4 }
 
--- moved from seconds it begins and ends where its seconds begin, and an open version stays open
+-- a version that is moved from seconds begins and ends where its seconds begin, and an open one stays open
 in_moments : moved_version ended ≡ record ended { from = pos 2_000_000; to = pos 4_000_000 }
 in_moments = refl
 

@@ -53,7 +53,7 @@ combined_seen Intersect A B C D left right row = (
   λ (c, d). ((left row).1 c, (right row).1 d),
 )
 
--- the query's set is the same
+-- the query's set is the same if the references see the same
 pub query_seen
     : (Sees Others : VisibleRows) (query : Query) → SeeAlike Sees Others (references_of query)
     → (row : List Value) → (InQuery Sees query row ↔ InQuery Others query row)

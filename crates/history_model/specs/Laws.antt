@@ -22,11 +22,11 @@ use Rattle.history_model.specs.Versions.{IsRecorded, current, row_of, values_at,
 abbrev pub KeepsClock : History → Event → Type 0
 KeepsClock history event = clock_of (with_event history event) ≡ clock_of history
 
--- the catalog is as before
+-- the catalog is the same after one more event
 abbrev pub KeepsCatalog : History → Event → Type 0
 KeepsCatalog history event = catalog_of (with_event history event) ≡ catalog_of history
 
--- the state at each moment is as before
+-- the state at each moment is the same after one more event
 abbrev pub KeepsStates : History → Event → Type 0
 KeepsStates history event =
     (moment : ℤ) (table : ℕ) (day : ℤ)

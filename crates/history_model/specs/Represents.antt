@@ -29,7 +29,7 @@ pub record IsRecord (database : Database) : Type 0 where
   pub lists : length database.versions ≡ length database.catalog
   pub recorded : (table : ℕ) → All (IsRecorded database.clock) (versions_in database table)
 
--- a change is made at the clock: it makes its table's versions, and nothing else is other
+-- a change is made at the clock: it makes its table's versions, and all else is unchanged
 pub record IsChangedBy (change : Change) (old new : Database) : Type 0 where
   pub clock : new.clock ≡ old.clock
   pub catalog : new.catalog ≡ old.catalog

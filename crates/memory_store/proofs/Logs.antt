@@ -45,7 +45,7 @@ unmarked_one (entry.Replaced t old) us s none = refl
 unmarked_one (Relisted t d r) us s none = refl
 unmarked_one (Version v) us s none = refl
 
--- no entry for a savepoint, so none to go back to
+-- a log without savepoints has no mark
 pub unmarked : (us : List LogEntry) (s : ContentState) → HaveNoSavepoint us → marked us s ≡ []
 unmarked [] s none = refl
 unmarked (u ∷ us) s none = unmarked_one u us s none.0 ∙ unmarked us s none.1

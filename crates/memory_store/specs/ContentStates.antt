@@ -46,7 +46,7 @@ state_snapshot s = snapshot_of s.headings (rows_at s) s.version
 abbrev pub RowsFitShapes : ContentState → Type 0
 RowsFitShapes s = IsOrdered (shape_in s.headings) (rows_at s)
 
--- all but the last
+-- a list without its last element
 abbrev pub shorter : {X : Type 0} → List X → List X
 shorter xs = take (length xs - 1) xs
 
@@ -69,7 +69,7 @@ abbrev pub before_all : List LogEntry → ContentState → ContentState
 before_all [] s = s
 before_all (u ∷ more) s = before u (before_all more s)
 
--- whether it is a savepoint
+-- whether an entry is a savepoint
 abbrev pub is_savepoint : LogEntry → Bool
 is_savepoint Savepoint = true
 is_savepoint _ = false

@@ -8,14 +8,14 @@ use Rattle.sqlite_trees.specs.View.{is_int}
 use Rattle.memory_store.specs.declared.edit.Edit.{Edit}
 use Rattle.memory_store.specs.declared.edit.Edit.TheVariants.{Delete, Insert, Put, Remove}
 
--- the rows after it
+-- the rows after the edit
 abbrev pub edited : Edit → List Row → List Row
 edited (Put row) = put_row row.now
 edited (Delete id) = without_rowid id
 edited (Insert order entry) = insert_entry order entry.now
 edited (Remove order entry) = remove_entry order entry.now
 
--- a tree of this shape may be written so
+-- the edit fits a tree of this shape
 abbrev pub Fits : Edit → Shape → Type 0
 Fits (Put row) shape = (shape ≡ Table) × IsTrue (is_int (rowid row.now))
 Fits (Delete id) shape = shape ≡ Table

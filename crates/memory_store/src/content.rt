@@ -127,7 +127,7 @@ impl Content {
         mem::replace(&mut self.trees[tree as usize], new)
     }
 
-    /// Another description and other REAL columns of the tree with this number, and those that it
+    /// Gives the tree with this number another description and REAL columns. Returns those that it
     /// had.
     pub(crate) fn relist(&mut self, tree: u32, described: Row, reals: u64) -> (Row, u64)
         requires { tree < length self.old.trees.items }

@@ -123,7 +123,7 @@ both_begun {m} {n} {x} {y} {p} {q} a b o begins starts e tells =
       rw (begins.is, starts.is) (prefix_begun m n (x ∷ begins.more) (y ∷ starts.more) begins.others starts.others ∙ chain_decides (int_cmp m n) (nat_cmp x y) (nat_cmp p q) _ _ o step e tells),
     )
 
--- if the abbreviated keys decide, the rows are ordered so
+-- if the abbreviated keys of two rows differ, they decide the order of the rows
 pub heads_decide : (h k : AbbreviatedKey) (a b : Row) → IsAbbreviationOf h a → IsAbbreviationOf k b → (o : Ordering) → abbreviated_cmp h k ≡ o → (o ≡ Equal → ⊥) → DecidedBy o a b
 heads_decide Other k a b of_a of_b o e tells = absurd (tells (sym e))
 heads_decide (Integer m) k a b of_a of_b o e tells = absurd (tells (sym e))

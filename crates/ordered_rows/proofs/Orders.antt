@@ -19,7 +19,7 @@ use Rattle.ordered_rows.specs.Targets.{side}
 use Rattle.ordered_rows.specs.Edits.{IsCut, with_new, without}
 use Rattle.ordered_rows.specs.Seeks.{IsSeekable}
 
--- a key above one that is not below k is above k
+-- if a is not below k, a key above a is above k
 not_below : {K : Type 0} {R : K → K → Ordering} → IsTotalOrder R → (a b k : K) → R a b ≡ Less → is_lt (R a k) ≡ false → R b k ≡ Greater
 not_below {K} {R} total a b k less h = go (R a k) refl h
   where

@@ -42,7 +42,7 @@ pub record IsAbbreviationOf (key : AbbreviatedKey) (row : Row) : Type 0 where
   pub bounded : (byte : ℕ) (n : ℤ) (number : ℕ) → key ≡ IntegerAndBlob byte n number
       → (at : ℕ) → slice_index_or (bytes (column row 1)) at 0 < 256
 
--- the integer that the row begins with, if it does
+-- the integer that the row begins with, if it begins with one
 abbrev pub integer_of : AbbreviatedKey → Option ℤ
 integer_of Other = None
 integer_of (Integer n) = Some n

@@ -58,7 +58,7 @@ taken (suc n) i t h =
     at_drop_more (take (suc n)) t i 0 (omega (arith, h))
     ∙ ap (λ (z : List ℕ). get_or t i 0 ∷ z) (taken n (i + 1) t (omega (arith, h)))
 
--- a text of n bytes is these
+-- a text of n bytes is its n bytes from the first place on
 pub bytes_are : (n : ℕ) (t : List ℕ) → length t ≡ n → t ≡ bytes_from n 0 t
 bytes_are n t e = sym (take-length t) ∙ ap (λ (k : ℕ). take k t) e ∙ taken n 0 t (omega (arith, e))
 
@@ -96,7 +96,7 @@ date_parts t v first second e =
     date_is _ _ _ _ _ _ _ _ _ _ century.0 year.0 month.0 day.0 c.0 c.1 y.0 y.1 first m.0 m.1 second d.0 d.1 y.2 in
     subst (λ (w : ℕ × ℕ × ℕ). (bytes_from 10 0 t ≡ date_text w.0 w.1 w.2) × (w.0 < 10000) × (w.1 < 100) × (w.2 < 100)) (some_is (century.0 * 100 + year.0, month.0, day.0) v day.2) (text, omega (arith, c.2, y.2), m.2, d.2)
 
--- the text that is read as these is the one that shows them
+-- a text that is read as a date is the text of that date
 pub date_shown : (t : List ℕ) (v : ℕ × ℕ × ℕ) → date_at t ≡ Some v → (bytes_from 10 0 t ≡ date_text v.0 v.1 v.2) × (v.0 < 10000) × (v.1 < 100) × (v.2 < 100)
 unfolding date_at
 date_shown t v e =
@@ -109,7 +109,7 @@ date_shown t v e =
       ]
     ]
 
--- the text that shows these is read as them
+-- the text of a date is read as that date
 pub date_found : (t : List ℕ) (y m d : ℕ) → y < 10000 → m < 100 → d < 100 → bytes_from 10 0 t ≡ date_text y m d → date_at t ≡ Some (y, m, d)
 unfolding date_at date_parts_of
 date_found t y m d hy hm hd whole =

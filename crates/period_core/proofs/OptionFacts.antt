@@ -5,7 +5,7 @@ use Rattle.period_core.specs.TextReading.{◌>>=◌}
 abbrev done : {A : Type 0} → A → Option A
 done x = Some x
 
--- two results that are one have the same value
+-- equal results have equal values
 pub some_is : {A : Type 0} (x y : A) → done x ≡ done y → x ≡ y
 some_is x y e = cc
 

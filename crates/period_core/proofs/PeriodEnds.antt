@@ -62,7 +62,7 @@ pub precede_to : (x y : Period) → x.end ≤ℤ y.start → Precede x y
 precede_to x y h day inside =
     let k : day <ℤ x.end = days_to x day inside in before_to y day (omega (arith, ints))
 
--- the day of the first's end would be between, were it before the second's start
+-- two periods that meet have no day between them
 no_gap : (x y : Period) → Meet x y → x.end <ℤ y.start → ⊥
 no_gap x y h gap = h.1 x.end (after_to x x.end (omega (arith, ints))) (before_to y x.end gap)
 

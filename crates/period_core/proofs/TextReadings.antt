@@ -10,7 +10,7 @@ use Rattle.period_core.proofs.DateTexts.{bytes_are, bytes_from, date_found, date
 use Rattle.period_core.proofs.FractionTexts.{fraction_found, fraction_shown}
 use Rattle.period_core.proofs.OptionFacts.{bind_some, if_some, none_some, some_is}
 
--- ---- there is such a date
+-- ---- the date exists
 
 nat_le_is : (a b : ℕ) → nat_le a b ≡ true → a ≤ b
 nat_le_is a b e = grind (arith, nat_tests, e)
@@ -222,7 +222,7 @@ nothing = None
 not_some : IsSome nothing → ⊥
 not_some s = cc
 
--- an option that exists exactly if a test holds, and then is this
+-- an option that has this value if a test holds, and else none
 pub chosen : (r : Option ℤ) (b : Bool) (n : ℤ) (P : Type 0) → (b ≡ true → P) → (P → b ≡ true) → IsSome r ↔ P → IfSome r (λ x. x ≡ n) → r ≡ cond b (Some n) None
 chosen (Some x) b n P if_true if_P i e = rw (if_P (i.0 (search rules))) (ap (λ (z : ℤ). Some z) e)
 chosen None true n P if_true if_P i e = absurd (not_some (i.1 (if_true refl)))

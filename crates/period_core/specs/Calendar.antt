@@ -22,7 +22,7 @@ month_length y m = get_or (month_lengths y) (m - 1) 0
 abbrev pub days_before : ℕ → ℕ → ℕ
 days_before y m = sum (take (m - 1) (month_lengths y))
 
--- there is such a date, in these years
+-- the date exists, in the years 1 to 9999
 pub record IsDate (y m d : ℕ) : Type 0 where
   pub year : (1 ≤ y) × (y ≤ 9999)
   pub month : (1 ≤ m) × (m ≤ 12)

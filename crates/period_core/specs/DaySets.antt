@@ -37,6 +37,6 @@ Contain x y = (day : ℤ) → InPeriod y day → InPeriod x day
 abbrev pub Precede : Period → Period → Type 0
 Precede x y = (day : ℤ) → InPeriod x day → IsBefore day y
 
--- IMMEDIATELY PRECEDES: and no day is between them
+-- IMMEDIATELY PRECEDES: the first precedes the second, and no day is between them
 abbrev pub Meet : Period → Period → Type 0
 Meet x y = Precede x y × ((day : ℤ) → IsAfter day x → IsBefore day y → ⊥)

@@ -14,7 +14,7 @@ first_moment = neg_ℤ (pos 62_135_596_800_000_000)
 abbrev pub forever : ℤ
 forever = pos 253_402_300_799_999_999
 
--- there is such a moment: a date, hours to 23, minutes and seconds to 59, microseconds to 999,999
+-- the moment exists: a date, hours to 23, minutes and seconds to 59, microseconds to 999,999
 pub record IsMoment (y m d h mi s us : ℕ) : Type 0 where
   pub date : IsDate y m d
   pub hour : h ≤ 23

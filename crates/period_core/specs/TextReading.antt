@@ -77,13 +77,13 @@ fraction_at text =
     (digit_at text 23) (digit_at text 24) (digit_at text 25))
     None) None)
 
--- there is such a date from the year 1 to 9999
+-- the date exists, from the year 1 to 9999
 unfoldable pub is_date : ℕ → ℕ → ℕ → Bool
 is_date year month day =
     nat_le 1 year && (nat_le year 9999 && (nat_le 1 month && (nat_le month 12 &&
     (nat_le 1 day && nat_le day (month_length year month)))))
 
--- there is such a time of day
+-- the time of day exists
 unfoldable pub is_time : ℕ → ℕ → ℕ → ℕ → Bool
 is_time hour minute second microsecond =
     nat_le hour 23 && (nat_le minute 59 && (nat_le second 59 && nat_le microsecond 999_999))

@@ -110,11 +110,11 @@ taken {X} xs i here x below is there =
 abbrev placed_as : Period → ℕ → PlacedPeriod
 placed_as period place = record { period = period; place = place }
 
--- two of the same period and place
+-- two placed periods with one period and one place are one
 pub same_placed : (one other : PlacedPeriod) → one.place ≡ other.place → one.period ≡ other.period → one ≡ other
 same_placed one other place period = ap (λ (p : Period). placed_as p one.place) period ∙ ap (placed_as other.period) place
 
--- a block of which one more came in
+-- a block that got one more item
 pub grown : (blocks : List Block) (i : ℕ) (old new : Block) (item : PlacedPeriod) → i < length blocks → old ≡ get_or blocks i old → new.items.items ≡ old.items.items ++ item ∷ []
     → (x : PlacedPeriod) → Has x blocks → Has x (set blocks i new)
 grown blocks i old new item inside is more x there =
@@ -137,7 +137,7 @@ pub on_true : (b : Bool) {P Q : Type 0} → (P → Q) → OnTrue b P → OnTrue 
 on_true true f p = f p
 on_true false f p = tt
 
--- a case that may go in one step and in the next
+-- the first case after two steps, each of which may end in it
 pub still : {P Q R : Type 0} → P ⊎ Q → (Q → P ⊎ R) → P ⊎ R
 still (inl gone) next = inl gone
 still (inr has) next = next has

@@ -13,7 +13,7 @@ use Rattle.period_keys.proofs.MappedPairs.{pair_of_filter, pair_of_map}
 use Rattle.period_keys.proofs.Members.{in_filter}
 use Rattle.period_keys.proofs.Pairs.{SomeCross, SomePair-append, SomePair-cross, SomePair-nil, SomePair-one, SomePair-right}
 
--- a pair of the list is one of a mapped list
+-- two elements in a relation give two in a mapped list
 pub pair_in_map : {X Y : Type 0} (R : Y → Y → Type 0) (f : X → Y) (xs : List X) → SomePair (λ a b. R (f a) (f b)) xs → SomePair R (map f xs)
 pair_in_map {X} R f [] h = let S : X → X → Type 0 = λ a b. R (f a) (f b) in absurd (SomePair-nil S h)
 pair_in_map R f (x ∷ xs) (i, j, lt, below, both) =
@@ -27,7 +27,7 @@ pair_in_map R f (x ∷ xs) (i, j, lt, below, both) =
           (subst (R (f (get_or (x ∷ xs) i x))) (sym (get_or-map f (x ∷ xs) j x d below)) (both x)),
     )
 
--- a pair of two that pass a test is one of those that pass it
+-- two elements in a relation, both of which pass a test, are two in the filtered list
 pair_in_filter :
     {X : Type 0} (test : X → Bool) (R S : X → X → Type 0) → ((x y : X) → R x y → (test x ≡ true) × (test y ≡ true) × S x y)
     → (xs : List X) → SomePair R xs → SomePair S (filter test xs)

@@ -19,7 +19,7 @@ use Rattle.period_keys.proofs.Members.{some_member, member_of, Any-append, Any-o
 use Rattle.period_keys.proofs.Locality.{in_key, from_key, index_has, period_of}
 use Rattle.temporal_model.proofs.Members.{Contains-nil}
 
--- a child of the key holds on the day, and no period that exists of it does
+-- a child of the key holds on the day, and none of the remaining periods does
 abbrev pub LosesParent : (List Value → List Period) → KeyedPeriods → List Value → ℤ → Type 0
 LosesParent there children key day = Any (λ child. IsGap (there key) child day) (periods_at children key)
 

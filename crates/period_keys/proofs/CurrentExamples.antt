@@ -13,7 +13,7 @@ use Rattle.catalog_core.specs.declared.table.TableDef.{TableDef}
 use Rattle.history_model.specs.Histories.{State}
 use Rattle.period_keys.specs.Faults.{IsFaultBy}
 
--- the columns of a period and of the system time, and then these
+-- the columns of a period and of the system time, and more columns after them
 abbrev with_periods : List Column → List Column
 with_periods columns =
     record { name = codes "S"; kind = kind.Date }

@@ -20,7 +20,7 @@ use Rattle.period_keys.specs.Rows.{AreGrouped, HaveKey, rows_of_groups}
 use Rattle.period_keys.specs.Versions.{version_key}
 use Rattle.period_keys.proofs.Grouped.{Entries, Groups, changed_before, grouped_after, inserted_group, keyed_inserted, rows_in, unmoved, written}
 
--- the entries of the groups with this one at a key, which was there or is new
+-- the entries of the groups, with a group at a key that they had or had not
 pub record Enters (m : Groups) (key : List Value) (w : KeyRows) (es : Entries) : Type 0 where
   pub was_ordered : IsOrdered values_cmp m
   pub entries : es ≡ insert_entry values_cmp m.entries key w
@@ -30,7 +30,7 @@ pub record Enters (m : Groups) (key : List Value) (w : KeyRows) (es : Entries) :
 found_none : (es : Entries) (k : List Value) (v : KeyRows) → lookup (is_at (values_cmp k)) es ≡ Some v → lookup (is_at (values_cmp k)) es ≡ None → ⊥
 found_none es k v found none = (let e : Some v ≡ None = sym found ∙ none in cc)
 
--- a key below the first is none of them
+-- a key below the first entry's is no entry's
 below_first : (e : List Value × KeyRows) (es : Entries) (k : List Value) → IsStrictlySortedBy values_cmp (keys_of (e ∷ es)) → values_cmp k e.0 ≡ Less → lookup (is_at (values_cmp k)) (e ∷ es) ≡ None
 below_first e es k sorted less =
     lookup_at_gap values_cmp_total k (e ∷ es) 0 sorted (λ j x before there. absurd (omega (arith, before)))
@@ -65,7 +65,7 @@ inserted_empty (e ∷ es) k w none empty = by_order (λ h. inserted_empty es k w
 
 -- ---- either
 
--- the key exists, with this group, or it is new, and what is written was an empty group
+-- the groups had the key with this group, or the key is new and its group was empty
 Was : Groups → List Value → KeyRows → Type 0
 Was m key v = (Some v ≡ get values_cmp m key) ⊎ ((get values_cmp m key ≡ None) × (rows_in v ≡ []))
 

@@ -48,7 +48,7 @@ said_same conditions place other (AreSaidEqual.further {known = known} before sa
     says_same says.1 known other says.4 row (each_met conditions row met says.0 says.1 says.2 (sym says.3))
     ∙ said_same conditions place known before row met
 
--- a comparison says it by its sides
+-- a comparison says by its sides that two places are equal
 pub same_test : (condition : code.Tree CompareValues) (c : CompareValues) (place other : ℕ) → condition ≡ code.Test c → SaysEqual condition place other
     → ((c.left ≡ Position place) × (c.right ≡ Position other)) ⊎ ((c.right ≡ Position place) × (c.left ≡ Position other))
 same_test condition c place other is says =
@@ -56,7 +56,7 @@ same_test condition c place other is says =
     let same : says.0 ≡ c = cc in
     subst (λ (x : CompareValues). ((x.left ≡ Position place) × (x.right ≡ Position other)) ⊎ ((x.right ≡ Position place) × (x.left ≡ Position other))) same says.3
 
--- a condition says it of one other place
+-- a condition says of one place that it equals at most one other
 sides_once : (left right : Comparand) (place a b : ℕ) → ((left ≡ Position place) × (right ≡ Position a)) ⊎ ((right ≡ Position place) × (left ≡ Position a))
     → ((left ≡ Position place) × (right ≡ Position b)) ⊎ ((right ≡ Position place) × (left ≡ Position b)) → a ≡ b
 sides_once left right place a b first second =
@@ -109,7 +109,7 @@ and_false : (b : Bool) → (b && false) ≡ false
 and_false true = refl
 and_false false = refl
 
--- a condition that says it of a place that exists and one that is not
+-- a condition that says that a place of the list equals one that is not in it
 sides_lack : (places : List ℕ) (condition : code.Tree CompareValues) (known other : ℕ) → SaysEqual condition known other → (Contains places other → ⊥) → sides_of places condition ≡ false
 sides_lack places condition known other says absent =
     let lacks : has_side places (Position other) ≡ false = false_from_ne_true (has_side places (Position other)) (λ has. absent (side_to_there places other has)) in
@@ -252,7 +252,7 @@ reached_one conditions place = record {
   few = omega arith;
 }
 
--- the places that equal that at the next of them exist too
+-- the places equal to the next one are in the list too
 pub reached_more : (conditions : List (code.Tree CompareValues)) (place i known : ℕ) (places new : List ℕ) → Reached conditions place i places → i < length places → known ≡ get_or places i 0
     → (others : List ℕ) × (new ≡ places ++ others) → ((other : ℕ) → SomeSaysEqual conditions known other → Contains new other)
     → ((other : ℕ) → Contains new other → Contains places other ⊎ SomeSaysEqual conditions known other) → (Contains places known → AreFew conditions places → AreFew conditions new) → Reached conditions place (i + 1) new

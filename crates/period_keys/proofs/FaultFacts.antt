@@ -30,7 +30,7 @@ use Rattle.period_keys.proofs.Origins.{rows_moved}
 use Rattle.period_keys.proofs.Pairs.{SomePair-permutation}
 use Rattle.period_keys.proofs.PlanParts.{touched}
 
--- the rows that a plan leaves, of those in its order
+-- the rows that a plan leaves, in their order
 abbrev untouched : Action → List VersionRow → List VersionRow
 untouched action rows = filter (λ (v : VersionRow). not (touched action v)) rows
 

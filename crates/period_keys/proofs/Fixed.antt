@@ -49,7 +49,7 @@ module _ {T : Type 0} (Says : T → ℕ → Value → Type 0) (holds : T → Boo
 -- ==== conditions of the program ====
 
 module _ {T : Type 0} (Says : T → ℕ → Value → Type 0) (condition : code.Tree T) (first : Box (code.Tree T)) (others : Vec (code.Tree T)) (position : ℕ) (value : Value) where
-  -- an AND says what its first part says, and what each other says
+  -- an AND says what its first part says, and what each other part says
   pub in_first : condition ≡ code.And first others → (part : code.Tree T) → part ≡ first.value → States Says (plain_condition part) position value → States Says (plain_condition condition) position value
   in_first is part same says =
       subst (λ (c : Condition T). States Says c position value) (sym (ap plain_condition is ∙ and_view first others))

@@ -61,7 +61,7 @@ no_earlier_gap Old periods child (Some found) day until least held past one = re
   ];
 }
 
--- the first gap, as it is found
+-- the first gap of a child, as the loop finds it
 pub first_of : (periods : List Period) (child : Period) (day : ℤ) (found : Option ℤ) → IsHeldTo periods child day → child.start ≤ℤ day → (day <ℤ child.end → IsHeld periods day → ⊥)
     → (day <ℤ child.end → found ≡ Some day) → (child.end ≤ℤ day → found ≡ None) → IsLeastOf (IsGap periods child) found
 first_of periods child day found held from alone there none =

@@ -11,7 +11,7 @@ use Rattle.std.proofs.lemmas.List.Sorted.{IsPermutation-insert, IsPermutation-sy
 use Rattle.period_core.specs.declared.period.Period.{Period}
 use Rattle.period_keys.specs.Ordered.{AreInOrder}
 
--- the place of an element of the longer list in the shorter one, if it is not the new one
+-- the place that an element of the longer list has in the shorter one, if it has one
 data Was : (i k : ℕ) → Type 0 where
   Before : (i k : ℕ) → k < i → Was i k
   New : (i k : ℕ) → k ≡ i → Was i k
@@ -26,7 +26,7 @@ was i k = elim (cases_lt k i) [
   ]
 ]
 
--- the place after those that start by the period's start
+-- a period inserted after all that start by its start leaves the list in order
 pub insert_in_order :
     (xs : List Period) (i : ℕ) (x : Period) → i ≤ length xs → AreInOrder xs
     → ((k : ℕ) (d : Period) → k < i → (get_or xs k d).start ≤ℤ x.start)
@@ -68,7 +68,7 @@ inserted xs i x =
     IsPermutation-trans (insert xs i x) (x ∷ xs) (xs ++ x ∷ [])
     (IsPermutation-sym (x ∷ xs) (insert xs i x) (IsPermutation-insert xs i x)) (IsPermutation-append_comm (x ∷ []) xs)
 
--- the step of a search: those up to one that starts by the day do so
+-- a step of a search: if a period starts by the day, so do all before it
 pub by_start :
     (xs : List Period) (m : ℕ) (x : Period) (day : ℤ) → AreInOrder xs → m < length xs → x ≡ get_or xs m x → x.start ≤ℤ day
     → (k : ℕ) (d : Period) → k < m + 1 → (get_or xs k d).start ≤ℤ day

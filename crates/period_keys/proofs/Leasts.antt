@@ -47,7 +47,7 @@ IsLeastOf-either P Q (Some day) (Some next) p q =
       })
     ]
 
--- the least of what some elements give, or one more
+-- the least day of some elements' days and of one more element's
 pub least_with_one : {X : Type 0} (P : X → ℤ → Type 0) (xs : List X) (x : X) (new : Option ℤ) → IsLeastOf (λ day. Any (λ y. P y day) xs ⊎ P x day) new → IsLeastOf (λ day. Any (λ y. P y day) (xs ++ x ∷ [])) new
 least_with_one {X} P xs x new least =
     let joined : (day : ℤ) → ((Any (λ y. P y day) xs ⊎ P x day) ↔ Any (λ y. P y day) (xs ++ x ∷ [])) = λ day. (

@@ -7,7 +7,7 @@ use Rattle.period_keys.specs.Keys.{SomePair}
 use Rattle.period_keys.proofs.Members.{from_filter}
 use Rattle.period_keys.proofs.Pairs.{SomePair-append, SomePair-cross, SomePair-nil, SomePair-one, SomePair-right}
 
--- a pair of a mapped list is one of the list
+-- two elements in a relation in a mapped list are images of two in the list
 pub pair_of_map : {X Y : Type 0} (R : Y → Y → Type 0) (f : X → Y) (xs : List X) → SomePair R (map f xs) → SomePair (λ a b. R (f a) (f b)) xs
 pair_of_map R f xs (i, j, lt, below, both) =
     let size : length (map f xs) ≡ length xs = length-map xs f in (
@@ -20,7 +20,7 @@ pair_of_map R f xs (i, j, lt, below, both) =
           (subst (R (get_or (map f xs) i (f d))) (get_or-map f xs j d (f d) (omega arith)) (both (f d))),
     )
 
--- a pair of those that pass a test is a pair of two that pass it
+-- two elements in a relation in a filtered list are two in the list that pass
 pub pair_of_filter :
     {X : Type 0} (test : X → Bool) (R S : X → X → Type 0) → ((x y : X) → test x ≡ true → test y ≡ true → R x y → S x y)
     → (xs : List X) → SomePair R (filter test xs) → SomePair S xs

@@ -87,7 +87,7 @@ some_has index key some = go (periods_at index key) some
     go [] none = absurd (none refl)
     go (x ∷ xs) none = longer (length xs)
 
--- a key that has one is in the map
+-- a key that has a period is in the map
 pub has_entry : (index : KeyedPeriods) (key : List Value) → (periods_at index key ≡ [] → ⊥) → is_some (get values_cmp index.entries key) ≡ true
 has_entry index key some = go (get values_cmp index.entries key) some
   where

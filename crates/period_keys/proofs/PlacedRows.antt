@@ -106,7 +106,7 @@ one_row rows at d below =
 abbrev pub placed_as : Period → ℕ → PlacedPeriod
 placed_as period place = record { period = period; place = place }
 
--- the element at a place that the last one took
+-- the element at a place after the last one was moved there
 swapped_in : {X : Type 0} (xs : List X) (i last : ℕ) (x d : X) → i < length xs → last + 1 ≡ length xs → i < last → get_or (swap_remove xs i x) i d ≡ get_or xs last d
 swapped_in xs i last x d inside is below =
     let end : length xs - 1 ≡ last = omega arith in
@@ -172,6 +172,6 @@ placed_last rows before row item is place at =
     ∙ ap (λ n. get_or (row ∷ []) n row) (let e : item.place - length before ≡ 0 = omega arith in e) in
     ap (λ (p : Period). placed_as p item.place) (sym (at.1 row) ∙ ap (λ (v : VersionRow). v.period) here) ∙ ap (placed_as row.period) place
 
--- some row, of a list with one at the place
+-- some row of a list that has a row at the place
 pub row_of_some : (rows : List VersionRow) (at : ℕ) → at < length rows → VersionRow
 row_of_some rows at below = some rows (omega arith)

@@ -169,7 +169,7 @@ and_is a b is = sym (ap (λ (t : Bool). t && b) is)
 pub and_not : (t a b : Bool) → t ≡ a → t ≡ false → t ≡ (a && b)
 and_not t a b same not = not ∙ sym (ap (λ (u : Bool). u && b) (sym same ∙ not))
 
--- the next value, by the number of values as the list keeps it
+-- the next value of a key, by the number of leading values
 pub next_of_range : (test : Option Value → Bool) (range : KeyRange) (key : List Value) (count : ℕ) → count ≡ vec_len range.leading → test (slice_get key count) ≡ test (slice_get key (length range.leading.items))
 next_of_range test range key count is = (let ok = range.leading.ok.0 in ap (λ (n : ℕ). test (slice_get key n)) (omega (arith, is, ok)))
 
@@ -404,7 +404,7 @@ at_most (p ∷ positions) values = by_value (slice_get values p) (at_most positi
     by_value None h = omega (arith, h)
     by_value (Some v) h = omega (arith, h)
 
--- a key of no more values than the leading ones is these
+-- a key with no more values than the leading ones is the leading values
 pub whole_key : (range : KeyRange) (positions : List ℕ) (values : List Value) → length positions ≤ length range.leading.items → is_in_range range (values_at positions values) ≡ true → values_at positions values ≡ range.leading.items
 whole_key range positions values whole is =
     let key = values_at positions values in

@@ -144,7 +144,7 @@ pub indexed_as : (tables : List TableRows) (number other : ℕ) (positions worke
 indexed_as tables number other positions worked indexed same is =
     subst (λ (n : ℕ). IsIndexedBy tables n worked) (sym same) (subst (IsIndexedBy tables number) (sym is) indexed)
 
--- an index that was looked up by them
+-- an index that was looked up by its positions
 pub index_as : (tables : List TableRows) (number other : ℕ) (positions worked : List ℕ) (index : KeyedPeriods) (table : TableRows) → other ≡ number → worked ≡ positions → table_of tables number ≡ Some table
     → ((t : TableRows) → table_of tables other ≡ Some t → IsIndexOf worked (map row_of t.rows) index) → IsIndexOf positions (map row_of table.rows) index
 index_as tables number other positions worked index table same is there found =

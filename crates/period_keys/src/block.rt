@@ -127,7 +127,7 @@ impl Block {
         None
     }
 
-    // Takes the days between which they lie anew.
+    // Sets the block's days to the least range around its periods.
     fn tighten(&mut self)
         ensures { self.new.items.items ≡ self.old.items.items }
     {

@@ -10,7 +10,7 @@ use Rattle.period_core.proofs.PeriodEnds.{after_by, after_to, before_by, before_
 use Rattle.history_model.specs.Portions.{part}
 use Rattle.portion_dml.specs.Parts.{row_over}
 
--- the part has the days from one on and before another
+-- the part has the days from one day on and before another
 by_days : (values : List Value) (p : Option Period) (start end : ℤ) → ((day : ℤ) → InPart p day ↔ ((start ≤ℤ day) × (day <ℤ end))) → row_over values p ≡ part values start end
 by_days values None start end days = go (int_lt start end) refl
   where
@@ -55,7 +55,7 @@ part_before values p other left days =
       λ h. let k = min_below day p.end other.start h.1 in (days day).1 (day_in p day h.0 k.0, before_to other day k.1),
     ))
 
--- the part of a period after the other
+-- the part of a period after another period
 pub part_after : (values : List Value) (p other : Period) (left : Option Period) → ((day : ℤ) → InPart left day ↔ (InPeriod p day × IsAfter day other)) → row_over values left ≡ part values (int_max p.start other.end) p.end
 part_after values p other left days =
     by_days values left (int_max p.start other.end) p.end (λ day. (

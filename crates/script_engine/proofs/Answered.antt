@@ -43,7 +43,7 @@ is_shown moment day v = window_sees (AsOf moment) v.from v.to && covers_day v.st
 abbrev shown_values : ℤ → ℤ → List TableVersion → List (List Value)
 shown_values moment day versions = map (λ (v : TableVersion). v.values) (filter (is_shown moment day) versions)
 
--- version rows hold what they hold as versions of a table
+-- version rows hold the same values as versions of a table
 values_shown : (table : ℕ) (rows : List VersionRow) (moment day : ℤ) → shown_values moment day (map (version_in table) rows) ≡ values_at rows moment day
 values_shown table rows moment day =
     ap (map (λ (v : TableVersion). v.values)) (filter-map (is_shown moment day) (version_in table) rows)

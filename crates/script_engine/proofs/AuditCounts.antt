@@ -27,7 +27,7 @@ IsWithin xs ys = (day : ℤ) → Contains xs day → Contains ys day
 
 -- ---- ascending lists with the same members
 
--- the first of each is the first of the other
+-- two ascending lists with the same elements have the same first element
 same_first : (x y : ℤ) (xs ys : List ℤ) → AllPairs Before (x ∷ xs) → AllPairs Before (y ∷ ys) → IsWithin (x ∷ xs) (y ∷ ys) → IsWithin (y ∷ ys) (x ∷ xs) → x ≡ y
 same_first x y xs ys up rising there back =
     elim (Contains-cons_cases y ys x (there x (Contains-here x xs))) [
@@ -73,7 +73,7 @@ same_rows history reference rows others first second =
     IsPermutation-trans rows (sees first.versions) others (IsPermutation-sym (sees first.versions) rows first.all)
     (IsPermutation-trans (sees first.versions) (sees second.versions) others between second.all)
 
--- a list of those that references have is one reference's, and each reference's is among them
+-- the lists that references have: each is some reference's list, and each reference's list is one of them
 whose : (tables : List (List PeriodRow)) (references : List QueryReference) (rows : List PeriodRow) → Contains (map (rows_for tables) references) rows → (reference : QueryReference) × Contains references reference × (rows_for tables reference ≡ rows)
 whose tables [] rows c = absurd (Contains-nil rows c)
 whose tables (first ∷ references) rows c =

@@ -51,7 +51,7 @@ lawful_at : (tables : List TableDef) (number : ℕ) (d : TableDef) → AreLawful
 lawful_at tables zero d lawful there = absurd (none-some d there)
 lawful_at tables (suc place) d lawful there = (take place tables, each_lawful [] tables place d lawful there)
 
--- a fact of each of two lists together is one of each of the first
+-- a property of each element of two lists together holds of each of the first
 all_front : {A : Type 0} (P : A → Type 0) (xs ys : List A) → AllByRecursion P (xs ++ ys) → AllByRecursion P xs
 all_front P [] ys all = tt
 all_front P (x ∷ xs) ys all = (all.0, all_front P xs ys all.1)
@@ -90,7 +90,7 @@ module _ {S : Type 0} (g : Ghosts S) (history : History) (old : EngineState S) (
       let whole : length plan.added ≡ length (added change.action ours) = sym (length-map plan.added plain_row) ∙ ap length over.plans.added in
       omega (arith, whole, length-append given (flat_map (replacements change.action) ours), length-append given (flat_map (replacements change.action) its), replaced)
 
-  -- the rows that it ends are short
+  -- the rows that the plan ends are short
   ended_short : AllByRecursion (λ (row : VersionRow). IsShort (encoded row.values)) plan.ended
   ended_short =
       let c : Contents = kept.contents in
@@ -105,7 +105,7 @@ module _ {S : Type 0} (g : Ghosts S) (history : History) (old : EngineState S) (
       (all_from_map ShortVersion (version_in change.table) holds.rows its))
 
   module _ (sound : NoneApplies (Holds (change_conditions old.catalog.tables s))) (resolved : ResolvesChange old.catalog.tables s change) where
-    -- the rows that it adds are short too
+    -- the rows that the plan adds are short too
     added_short : AllByRecursion (λ (row : PeriodRow). IsShort (encoded row.values)) plan.added
     added_short =
         let c : Contents = kept.contents in

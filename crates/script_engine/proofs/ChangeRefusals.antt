@@ -49,7 +49,7 @@ only_empty tables s sound refusal h =
       | inr k ↦ elim k [ inl both ↦ both | inr nothing ↦ absurd nothing ]
     ]
 
--- a refusal, and that none applies, in one way for each form of change
+-- a property of refusals, shown in one way for each form of change
 each_form : (P : (Refusal → Type 0) → Type 0) (tables : List TableDef) (clock : ℤ) (s : Statement) → IsChange s → P (ChangeApplies tables s) → P (AppliesOver tables clock s)
 each_form P tables clock (statement.insert i) is p = p
 each_form P tables clock (statement.update u) is p = p
@@ -60,7 +60,7 @@ module _ (tables : List TableDef) (clock : ℤ) (s : Statement) (is : IsChange s
   over : (P : (Refusal → Type 0) → Type 0) → P (Applies tables s) → P (AppliesOver tables clock s)
   over P p = each_form P tables clock s is (formed P tables s p)
 
-  -- a change that is not resolved
+  -- a refusal of a change that is not resolved
   pub unresolved_answer : (refusal : Refusal) → MayAnswer (Holds (change_conditions tables s)) refusal → MayAnswer (AppliesOver tables clock s) refusal
   unresolved_answer refusal may =
       over (λ A. MayAnswer A refusal) (may_answer-before (change_conditions tables s) (gives_empty tables s) refusal (change_numbers tables s) may)
@@ -94,10 +94,10 @@ module _ (tables : List TableDef) (clock : ℤ) (s : Statement) (is : IsChange s
     pub none_without_empty : (has_empty_row action ≡ true → ⊥) → NoneApplies (AppliesOver tables clock s)
     none_without_empty days = over NoneApplies (λ refusal h. days (sym empty ∙ (only_empty tables s sound refusal h).1))
 
-    -- so it may be refused with 42 or 43
+    -- a lawful change's resolution may be refused with 42 or 43
     pub constrained : (refusal : Refusal) → (has_empty_row action ≡ true → ⊥) → IsConstraintRefusal refusal → MayRefuseOver tables clock s refusal
     constrained refusal days by = inr (is, by, none_without_empty days)
 
-    -- so it is of a change that has a plan
+    -- a change that has a plan meets no condition of a refusal
     pub planned_sound : (listed : List VersionRow) (plan : Plan) → Plans action listed plan → NoneApplies (AppliesOver tables clock s)
     planned_sound listed plan plans = none_without_empty (λ found. let off : has_empty_row action ≡ false = days-planned action listed plan plans in false≢true (sym off ∙ found))

@@ -54,7 +54,7 @@ use Rattle.script_engine.proofs.Steps.{failed_step, refused_step, tables_of}
 
 -- ---- the forms of changes
 
--- the history that follows, in one way for each form
+-- the history that follows a change, in one way for each form of change
 accepts_change : (history new : History) (s : Statement) (outcome : Outcome) → IsChange s → Changes history s outcome new → Accepts history s outcome new
 accepts_change history new (statement.insert i) outcome is changes = changes
 accepts_change history new (statement.update u) outcome is changes = changes
@@ -140,7 +140,7 @@ module _ {S : Type 0} (g : Ghosts S) (history : History) (old : EngineState S) (
       abbrev rest : List VersionRow
       rest = staying history kept.contents change plan kept.said over
 
-      -- the rows in memory after it
+      -- the rows in memory after the change
       current_after : (tables : List RowsByKey) → HaveDistinctKeys kept.contents.versions →
           ((stay : List VersionRow) → IsPermutation (rows_in old.tables change.table) (plan.ended ++ stay) → HaveRows change.table (map (begun old.clock) plan.added ++ stay) old.tables tables) →
           HaveCurrentRows after tables
@@ -161,7 +161,7 @@ module _ {S : Type 0} (g : Ghosts S) (history : History) (old : EngineState S) (
           (ended_planned history c change plan kept.said over (ended_in old.ended change.table) apart (kept.ended change.table) made.held)
           (λ other off. other_tables change.table other c.clock plan.ended plan.added c off)
 
-      -- the versions after it are good
+      -- the versions after the change are good
       good_after : ResolvesChange old.catalog.tables s change → HaveColumnValues after.versions → AllByRecursion (IsGoodVersion kept.contents.tables kept.contents.clock) after.versions
       good_after resolved held =
           let c = kept.contents in

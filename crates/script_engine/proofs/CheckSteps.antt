@@ -9,7 +9,7 @@ use Rattle.sql_front.specs.declared.token_spans.TokenSpan.{TokenSpan}
 use Rattle.script_engine.specs.script.Check.{IsPieceCheck}
 use Rattle.script_engine.proofs.PieceFacts.{pieces_next}
 
--- one more item of each list
+-- a relation of two lists, with one more element of each
 AllZip-more : {A B : Type 0} (R : A → B → Type 0) (xs : List A) (ys : List B) (x : A) (y : B) → AllZip R xs ys → R x y → AllZip R (xs ++ x ∷ []) (ys ++ y ∷ [])
 AllZip-more R [] [] x y all here = (here, tt)
 AllZip-more R [] (b ∷ ys) x y all here = absurd all

@@ -69,7 +69,7 @@ module _ (t : TableDef) (distinct : has_distinct_names t ≡ true) where
       let first = position-Some p t.columns place x (its_place t place x distinct inside item) in
       ap (option_map (λ (y : Column). kind_of_column y.kind)) (found_first p t.columns place x first.0 first.1 first.2 ∙ ap (λ (y : Column). Some y) (sym item))
 
-  -- a value that is given for a column by its name, and is not wrong, is one of the column
+  -- a value that is given for a column by its name, and is not wrong, is a value of the column
   fits_named : (place : ℕ) (x : Column) (name : Name) (v : Value) → slice_get t.columns place ≡ Some x → bytes_eq name x.name ≡ true → is_of_other_kind t (name, v) ≡ false → is_too_long t (name, v) ≡ false → is_of_column x.kind v ≡ true
   unfolding is_of_other_kind is_too_long differ
   fits_named place x name v there named kinds lengths =
@@ -104,7 +104,7 @@ module _ (t : TableDef) (distinct : has_distinct_names t ≡ true) where
 
   -- ---- the rows of an INSERT
 
-  -- an element that is found among those that pass no other test
+  -- an element that passes one test is found by another, if it is the only one that passes that
   found : {X : Type 0} (p q : X → Bool) (xs : List X) (x : X) → list_any q xs ≡ false → find p xs ≡ Some x → (p x ≡ true) × (q x ≡ false)
   found p q [] x none is = absurd (none-some x is)
   found {X} p q (y ∷ xs) x none is =
@@ -148,7 +148,7 @@ module _ (t : TableDef) (distinct : has_distinct_names t ≡ true) where
 
   -- ---- SET
 
-  -- the value is one of the column at the position
+  -- the value is a value of the column at the position
   abbrev pub FitsAt : List (ℕ × Column) → ℕ → Value → Type 0
   FitsAt columns n v = (c : ℕ × Column) → slice_get columns n ≡ Some c → is_of_column c.1.kind v ≡ true
 

@@ -186,7 +186,7 @@ pub record IsOver (rows : List VersionRow) (action : Action) (plan : Plan) : Typ
   pub are_current : IsPermutation (current rows) listed
   pub plans : Plans action listed plan
 
--- the versions after it: those that stay, those that are closed, and those that begin
+-- the versions after the plan: those that stay, those that are closed, and those that begin
 abbrev pub stay_in : Action → List VersionRow → List VersionRow
 stay_in action rows = filter (λ (v : VersionRow). not (is_hit action v)) rows
 

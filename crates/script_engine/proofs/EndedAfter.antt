@@ -58,7 +58,7 @@ module _ (history : History) (c : Contents) (change : Change) (plan : Plan) (sai
       subst (IsPermutation (filter has_ended R₀)) (filter-append has_ended plan.ended S₀ ∙ ap (λ (l : List VersionRow). l ++ filter has_ended S₀) none)
       (IsPermutation-filter has_ended R₀ (plan.ended ++ S₀) (taken c.clock change.action plan R₀ over))
 
-  -- the versions that the plan ends come to them
+  -- the versions that the plan ends are added to the ended ones
   pub ended_planned : (list : List PackedVersion) → HaveDistinctKeys c.versions → HasEnded c change.table list → AreOfColumns (closed_at c.clock plan.ended) →
       HasEnded (planned change.table c.clock plan.ended plan.added c) change.table (list ++ map packed (closed_at c.clock plan.ended))
   ended_planned list apart has held =

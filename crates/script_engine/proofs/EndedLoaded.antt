@@ -71,7 +71,7 @@ one_loaded c count ls l was has = record {
             let list : l ≡ ended_in (ls ++ l ∷ []) (suc place) = sym (the_last ls l) ∙ ap (λ (n : ℕ). ended_in (ls ++ l ∷ []) (suc n)) last in
             subst (λ (n : ℕ). HasEnded c n (ended_in (ls ++ l ∷ []) (suc place))) number (subst (HasEnded c (count + 1)) list has)
 
--- no version is of a table that is missing
+-- no version belongs to a table that does not exist
 none_ended : (c : Contents) (number : ℕ) (list : List PackedVersion) → table_of c.tables number ≡ None → HaveTables c → list ≡ [] → HasEnded c number list
 none_ended c number list none tabled empty =
     subst (HasEnded c number) (sym empty) (record {

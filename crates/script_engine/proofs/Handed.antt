@@ -10,7 +10,7 @@ use Rattle.script_engine.specs.engine.Stored.{EngineRepresents, HasContents, Row
 use Rattle.script_engine.proofs.Steps.{tables_of}
 
 module _ {S : Type 0} (g : Ghosts S) (history : History) (engine : EngineState S) (kept : EngineRepresents g history engine) where
-  -- an engine has what it represents
+  -- an engine has the contents that it represents
   pub has_still : HasContents g engine kept.contents
   has_still = record { stored = kept.stored; current = kept.current; ended = kept.ended }
 

@@ -1,4 +1,4 @@
--- The rows in memory after each step: they go on being the current versions of the store.
+-- The rows in memory after each step: they remain the current versions of the store.
 use Rattle.std.proofs.Common.{◌≡◌, ◌++◌, ◌∷◌, ◌∙◌, ℕ, zero, suc, Bool, true, false, List, [], Option, None, Some, map, nat_eq, refl, set, sym, ap, ap₂, subst, arith}
 use Rattle.std.specs.List.{filter, slice_get}
 use Rattle.std.specs.List.Sorted.{IsPermutation}

@@ -84,7 +84,7 @@ one_loaded c count ts t d was inside key are = record {
 
 -- ---- all tables
 
--- no version is of a table that is missing
+-- no version belongs to a table that does not exist
 of_none : (c : Contents) (number : ℕ) (v : TableVersion) → table_of c.tables number ≡ None → (d : TableDef) × (table_of c.tables v.table ≡ Some d) → (v.table == number) ≡ false
 of_none c number v none there = go (v.table == number) refl
   where

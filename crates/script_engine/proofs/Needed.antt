@@ -133,7 +133,7 @@ module _ (history : History) (c : Contents) (reference : QueryReference) (said :
       let fit = rows_fit history c said reference known (map row_of shown_rows) shown_seen in
       subst (λ (v : List Value). has_kinds reference.kinds v ≡ true) same (each_in (λ (r : PeriodRow). has_kinds reference.kinds r.values ≡ true) (map row_of shown_rows) fit row among)
 
-  -- the needed rows of such rows have these kinds too
+  -- the needed rows of rows of some kinds have these kinds too
   pub needed_kinds : (conjuncts : Conditions) (start : ℕ) (rows : List PeriodRow) → IsKnown c.tables reference → IsNeeded history conjuncts start reference rows → list_all (λ (row : PeriodRow). has_kinds reference.kinds row.values) rows ≡ true
   needed_kinds conjuncts start rows known needed =
       all_are (λ (row : PeriodRow). has_kinds reference.kinds row.values) rows

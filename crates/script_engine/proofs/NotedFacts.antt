@@ -56,7 +56,7 @@ one_more true x xs = omega arith
 one_more false x xs = omega arith
 
 module _ (clock : ℤ) (action : Action) (before : int_eq clock forever ≡ false) where
-  -- a version that it touches and does not forget
+  -- a version that the change touches and does not forget
   abbrev is_kept : PlainVersion → Bool
   is_kept v = is_touched action v && not (int_eq v.from clock)
 
@@ -163,7 +163,7 @@ module _ {S : Type 0} (g : Ghosts S) (history last : History) (old new : EngineS
   clock_before : clock_of history <ℤ forever
   clock_before = subst (λ (m : ℤ). m <ℤ forever) was.said.clock was.said.good.clock.1
 
-  -- a change of which so many versions were touched
+  -- a change that touched this number of versions
   change_lost : (change : Change) (table touched : ℕ) → table ≡ change.table → touched ≡ length (touched_rows change.action (versions_of history change.table)) → last ≡ with_event history (Changed (clock_of history) change) →
       lost_of touched (length (ended_in old.ended table)) (length (ended_in new.ended table)) ≡ length (forgotten_by history change)
   change_lost change table touched same count after =
@@ -248,7 +248,7 @@ module _ {S : Type 0} (g : Ghosts S) (history last : History) (old new : EngineS
     λ other. absurd (other tt),
   )
 
-  -- the number that is found of a piece that spells a statement
+  -- the number for a piece that spells a statement
   pub piece_told : (piece : List Lexeme) (s : Statement) (result : Result Outcome Refusal) (count : ℕ) → IsStatement piece s → PieceStep history piece result last → count ≡ lost_in (ending_table old.catalog.tables s) result →
       OnOk result ((t : Statement) → IsStatement piece t → Forgets history t count)
   piece_told piece s (Err refusal) count spelled step counted = tt

@@ -21,7 +21,7 @@ use Rattle.script_engine.specs.engine.Runs.{IsConstraintRefusal, IsQuery, MayRef
 use Rattle.script_engine.proofs.ChangeRefusals.{change_numbers}
 use Rattle.script_engine.proofs.Refused.{are_at_most, code-at_most}
 
--- a refusal for memory is another one
+-- a refusal for memory is no failure of the store
 pub not_memory : (refusal : Refusal) → refusal ≡ Memory → refusal ≡ Store → ⊥
 not_memory refusal memory told = let no : Store ≡ Memory = sym told ∙ memory in cc
 

@@ -75,7 +75,7 @@ module _ (tables : List TableDef) (clock : ℤ) where
           let same : suc from + place ≡ from + suc place = omega arith in
           subst (λ (n : ℕ). of_table (suc n) versions ≡ map (version_in (suc n)) (get_or more.lists place [])) same (more.each place (omega arith))
 
-  -- no version is of a table that is missing
+  -- no version belongs to a table that does not exist
   of_none : (table : ℕ) (v : TableVersion) → table_of tables table ≡ None → IsGoodVersion tables clock v → (v.table == table) ≡ false
   of_none table v none good = go (v.table == table) refl
     where

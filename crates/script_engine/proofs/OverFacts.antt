@@ -27,7 +27,7 @@ module _ {S : Type 0} (g : Ghosts S) (old : EngineState S) (s : Statement) where
       StepOver g old s (Err refusal) new
   refused_over new refusal may memory stays usable = record { refused = may; memory = memory; none_stored = stays; accepted = tt; usable = usable }
 
-  -- an engine that is the same was not touched
+  -- an engine that is the same was not changed
   pub untouched_over : (new : EngineState S) (refusal : Refusal) → new ≡ old → MayRefuseOver old.catalog.tables old.clock s refusal → StepOver g old s (Err refusal) new
   untouched_over new refusal same may = subst (λ (e : EngineState S). StepOver g old s (Err refusal) e) (sym same) (refused_over old refusal may (same_memory old) (λ usable. (refl, refl)) (λ usable. usable))
 

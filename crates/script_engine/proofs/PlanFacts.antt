@@ -55,7 +55,7 @@ current_listed table versions rows listed all are = seen_rows table Now versions
 abbrev pub is_hit : Action → VersionRow → Bool
 is_hit action v = is_touched action (plain_version v)
 
--- two tests one after the other are one
+-- two filters, one after the other, are one filter by both tests
 pub filtered_twice : {X : Type 0} (p q : X → Bool) (xs : List X) → filter q (filter p xs) ≡ filter (λ x. p x && q x) xs
 filtered_twice p q [] = refl
 filtered_twice {X} p q (x ∷ xs) = go (p x) (filtered_twice p q xs)

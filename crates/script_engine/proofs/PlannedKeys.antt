@@ -54,7 +54,7 @@ use Rattle.script_engine.proofs.Recorded.{recorded_of}
 abbrev Differ : PeriodRow → PeriodRow → Type 0
 Differ a b = a.values ≡ b.values → a.period.start ≡ b.period.start → ⊥
 
--- rows of which no two clash on any day differ so
+-- rows of which no two clash on any day differ in their keys or days
 all_differ : (key : List ℕ) (rows : List PeriodRow) → HasNoClash key rows → IsAscending Differ rows
 all_differ key [] none = tt
 all_differ key (row ∷ rows) none = (
@@ -202,7 +202,7 @@ module _ (table : ℕ) (clock : ℤ) (rows : List PeriodRow) where
         | inr never ↦ absurd (false≢true (sym off ∙ ap (λ (m : ℤ). int_eq m forever) never ∙ int_same forever))
       ]))
 
-  -- versions of distinct keys are so together with added ones, if the current ones are
+  -- versions of distinct keys, together with added ones, have distinct keys if the current ones do
   joined : (vs : List TableVersion) → HaveDistinctKeys vs → AllByRecursion (λ (v : TableVersion). AreMoments Microseconds clock v.from v.to) vs → HaveDistinctKeys (seen_of table Now (vs ++ begins)) → HaveDistinctKeys (vs ++ begins)
   joined [] apart recorded shown = subst HaveDistinctKeys all_seen shown
   joined (v ∷ vs) apart recorded shown =

@@ -32,7 +32,7 @@ no_table rows = (
   refl,
 )
 
--- the database is not blamed for it
+-- the database is not blamed for the refusal
 not_the_database : (rows : Delete) → Step (opened new_database) (statement.delete rows) (Err Store) (opened new_database) → ⊥
 unfolding lacks_named number_of table_of_name
 not_the_database rows step =

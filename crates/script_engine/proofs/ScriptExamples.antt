@@ -84,7 +84,7 @@ lexed =
     (lexis.TokensFrom.token Word 4 refl (lexis.TokensFrom.blank 1 refl (lexis.TokensFrom.token Word 1 refl
     (lexis.TokensFrom.token Symbol 1 refl (lexis.TokensFrom.token Word 1 refl lexis.TokensFrom.ended))))))))
 
--- the semicolon cuts it in two
+-- the semicolon cuts the script in two
 cut : IsCutInto script_text (lookup ∷ letter ∷ [])
 unfolding lib.Utf8.encode
 cut = record {
@@ -98,7 +98,7 @@ cut = record {
 abbrev looked_up : Statement
 looked_up = stored (record { table = codes "T"; window = None; condition = None })
 
--- the tokens are read as this statement, and so spell it
+-- the tokens are read as the query, and so spell it
 lookup_is_read : whole_read (statement_read 0) lookup ≡ Some looked_up
 unfolding statement_read later_statement_read query_statement_read stored_read stored_table_read for_window_read where_read name_read is_plain_word is_reserved
 lookup_is_read = refl
@@ -121,7 +121,7 @@ letter_shallow : IsTooDeep letter → ⊥
 unfolding room
 letter_shallow = some_shallow 32 letter 32 refl
 
--- an answer for the spelling of a piece that is not overlong is one for the piece
+-- an answer for the spelling of a piece that is not overlong is an answer for the piece
 of_text : (piece : List Lexeme) (refusal : Refusal) → (IsOverlong piece → ⊥) → MayAnswer (PieceApplies piece) refusal → MayAnswer (TextApplies piece) refusal
 of_text piece refusal short (inr memory) = inr memory
 of_text piece refusal short (inl least) = inl (record {

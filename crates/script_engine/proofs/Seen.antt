@@ -82,7 +82,7 @@ holds_on day row = covers_day row.period.start row.period.end day
 abbrev its_values : PeriodRow → List Value
 its_values row = row.values
 
--- versions that the window sees hold on a day, without their system times, what it sees on it
+-- versions that the window sees hold on a day, without their system times, what the window sees on it
 seen_values : (window : Window) (versions : List VersionRow) (day : ℤ) → values_on (map row_of (filter (λ (v : VersionRow). window_sees window v.from v.to) versions)) day ≡ values_seen window versions day
 seen_values window versions day =
     let sees : VersionRow → Bool = λ v. window_sees window v.from v.to in

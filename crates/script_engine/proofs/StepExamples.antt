@@ -83,7 +83,7 @@ creation =
       references = [];
     }
 
--- the table that it gives: its period is over the columns at the places 2 and 3, its key the one at 0
+-- the table that the CREATE gives: its period is over the columns at the places 2 and 3, its key the one at 0
 abbrev pub emp : TableDef
 emp =
     record {
@@ -159,7 +159,7 @@ no_references zero child is = cc
 no_references (suc zero) child is = let same : emp ≡ child = cc in ap (λ (d : TableDef). d.references) (sym same)
 no_references (suc (suc place)) child is = cc
 
--- no condition of a refusal holds for it
+-- no condition of a refusal holds for the INSERT
 insertion_is_sound : NoneApplies (StatementApplies with_table (statement.insert insertion))
 unfolding matches_among some_match_among def_kind repeats is_matching number_of table_of_name kind_of_column same_kind differ wanted_names given_names lacks_table lists_unknown lists_ambiguous repeats_column is_system_name some_system_name lists_system omits_column has_row_of_other_length has_other_count is_of_other_kind is_longer is_too_long is_faulty gives_faulty_value has_faulty_value given_value value_for is_no_period gives_no_period has_no_period is_value_column chars find_among
 insertion_is_sound =

@@ -51,7 +51,7 @@ by_condition history (statement.stored q) refusal may = may
 pub refused_step : {S : Type 0} (g : Ghosts S) (history : History) (engine : EngineState S) (s : Statement) (refusal : Refusal) → EngineRepresents g history engine → MayRefuse (StatementApplies history s) refusal → StepsTo g history s (Err refusal) engine
 refused_step g history engine s refusal kept may = (history, (by_condition history s refusal may, refl), kept)
 
--- the history that is represented after a refused call
+-- the history that the engine represents after a refused call
 pub still : {S : Type 0} (g : Ghosts S) (history : History) (old new : EngineState S) (kept : EngineRepresents g history old) → HasContents g new kept.contents → EngineRepresents g history new
 still g history old new kept has = record { contents = kept.contents; stored = has.stored; said = kept.said; current = has.current; ended = has.ended }
 

@@ -41,7 +41,7 @@ in_order table versions sorted = versions_sorted table versions each
         front (values_cmp a.values b.values) (int_cmp a.period.start b.period.start) (int_cmp a.from b.from)
         (ordering_then (int_cmp a.period.end b.period.end) (int_cmp a.to b.to)) (sorted k d low high)
 
--- version rows that are in memory, as versions of a table, are all of them
+-- if version rows are in memory as versions of a table, all versions of the table are
 all_rows : (table : ℕ) (versions : List TableVersion) (rows memory : List VersionRow) → IsPermutation (of_table table versions) (map (version_in table) rows) → IsPermutation (of_table table versions) (map (version_in table) memory) → IsPermutation rows memory
 all_rows table versions rows memory all are =
     from_images (version_in table) (one_version table) rows memory

@@ -110,7 +110,7 @@ impl<S: Alter> Model for Engine<S> {
         × (length e.ended.items ≡ length e.store.catalog.tables) };
 }
 
-/// The connection of a store, which is a good one if its contents are.
+/// The connection of a store: a good store's is good.
 fn connection_of<S: Alter>(store: VersionStore<S>) -> Connection<S>
     ensures same { result ≡ store.connection }
     ensures settled { result.in_transaction ≡ false }

@@ -24,7 +24,7 @@ module _ (conjuncts : List Cond) where
     complete = λ day vs h can. (same day vs).1 (inr h);
   }
 
-  -- nothing, if no row of the set can meet the conditions
+  -- rows that add nothing, if no row of the set can meet the conditions
   pub Adds-none :
       (InSet : ℤ → List Value → Type 0) (rows : List PeriodRow)
       → ((day : ℤ) (vs : List Value) → InSet day vs → CanMeet conjuncts vs → ⊥)

@@ -62,7 +62,7 @@ pub none_inside :
 none_inside row other after disjoint h day vs (here, there) =
     unheld row (other ∷ after) (precedes_all row other after disjoint h) day vs here.0 here.2 there
 
--- a row on the days of both
+-- a row on the days that two rows share
 pub common :
     (rows : List PeriodRow) (row other new : PeriodRow) → row.values ≡ other.values → new.values ≡ row.values
     → ((day : ℤ) → (InPeriod new.period day ↔ (InPeriod row.period day × InPeriod other.period day))) → (day : ℤ) (vs : List Value)

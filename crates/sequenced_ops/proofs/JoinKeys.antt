@@ -86,7 +86,7 @@ pair_equal width more left right pair is first second rest e f met =
       sym (right_at width more left right pair is first second rest e f) ∙ two,
     )
 
--- a comparison that has its sides the other way round
+-- an equality whose sides are the other way round
 pub pair_equal_back
     : (width more left right : ℕ) (pair : Equality) → IsColumnPair width more left right pair
     → (first second rest : List Value) → length first ≡ width → length second ≡ more
@@ -114,7 +114,7 @@ passes_at p xs i d h all = go (p (get_or xs i d)) refl
     go true e = e
     go false e = absurd (let none : list_all p xs ≡ false = list_all_at p xs i d h e in cc)
 
--- a condition among those that all hold
+-- a condition of a list holds if all of the list hold
 pub meets_at
     : (conjuncts : List Cond) (i : ℕ) (condition : Cond) → i < length conjuncts
     → condition ≡ get_or conjuncts i condition → (values : List Value)

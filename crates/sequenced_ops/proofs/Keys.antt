@@ -145,7 +145,7 @@ same_keys equalities first second read other lefts rights same =
 
 -- ---- a key that is read
 
--- no values are at the columns, or these of the key are
+-- the columns have no values, or the values are the key's
 abbrev pub RestRead : List ℕ → List Value → ℤ → Option JoinKey → Type 0
 RestRead columns values lead found =
     MatchOption found ((read : List Value) → ReadsColumns columns values read → ⊥)

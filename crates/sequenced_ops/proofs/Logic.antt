@@ -21,7 +21,7 @@ part_moved h more split = (
   ],
 )
 
--- all that is left moves over
+-- an or whose second part is replaced by all that is left
 pub all_moved : {A D B F T : Type 0} → ((A ⊎ B) ↔ T) → (D ↔ (A ⊎ F)) → (B ↔ F) → (D ↔ T)
 all_moved h more same = (
   λ d. h.0 (elim (more.0 d) [ inl a ↦ inl a | inr f ↦ inr (same.1 f) ]),

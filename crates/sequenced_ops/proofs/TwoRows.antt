@@ -74,7 +74,7 @@ Precedes-trans a b c (inr same) h =
     let apart : a.period.end ≤ℤ b.period.start = same.1 in
     Precedes-shorter a b c same.0 (omega (arith, ints)) h
 
--- rows that all come after one hold nothing of it before its end
+-- rows that all come after a row hold nothing of it before its end
 pub unheld :
     (row : PeriodRow) (rows : List PeriodRow) → ((later : PeriodRow) → Contains rows later → Precedes row later)
     → (day : ℤ) (vs : List Value) → row.values ≡ vs → day <ℤ row.period.end → InSnapshot rows day vs → ⊥
@@ -83,7 +83,7 @@ unheld row rows all day vs e before h =
     let apart : row.period.end ≤ℤ r.period.start = Precedes-apart row r (e ∙ sym v) (all r c) in
     omega (arith, ints)
 
--- rows that a row precedes by the first of them
+-- a row precedes a list of rows if it precedes the first of them
 pub precedes_all :
     (row first : PeriodRow) (rest : List PeriodRow) → IsDisjoint (first ∷ rest) → Precedes row first
     → (later : PeriodRow) → Contains (first ∷ rest) later → Precedes row later

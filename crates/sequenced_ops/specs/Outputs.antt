@@ -17,7 +17,7 @@ IsGiven conjuncts Pairs pairs rows = pairs ≡ rows
 IsGiven conjuncts (Columns columns) pairs rows =
     SnapshotsAre (InSelected conjuncts columns.now pairs) rows
 
--- the rows are what is given of some pairs of which this holds
+-- the rows are the output for some pairs that have the property
 abbrev pub GivesSome
     : (List PeriodRow → Type 0) → List Cond → JoinOutput → List PeriodRow → Type 0
 GivesSome Are conjuncts output rows =

@@ -28,7 +28,7 @@ IsTestTruth start values test truth =
     (first rest : List Value) → length first ≡ start
     → compares (first ++ (values ++ rest)) test ≡ truth
 
--- no row with these values there meets all conditions
+-- no row with these values from the position on meets all conditions
 abbrev pub RulesOut : List Cond → ℕ → List Value → Type 0
 RulesOut conjuncts start values =
     (first rest : List Value) → length first ≡ start

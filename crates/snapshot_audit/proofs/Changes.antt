@@ -131,7 +131,7 @@ pub record IsLastUpTo (days : List ℤ) (day last : ℤ) : Type 0 where
   pub upto : last ≤ℤ day
   pub none : (other : ℤ) → Contains days other → last <ℤ other → day <ℤ other
 
--- there is one if some day of an ascending list is no later
+-- some day of an ascending list is the last up to a day, if the first is no later
 pub last_upto :
     (first : ℤ) (days : List ℤ) (day : ℤ) → AllPairs (λ a b. a <ℤ b) (first ∷ days) → first ≤ℤ day
     → (last : ℤ) × IsLastUpTo (first ∷ days) day last

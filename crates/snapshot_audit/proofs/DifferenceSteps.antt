@@ -112,7 +112,7 @@ module _ (query : Query) (lists : List (List PeriodRow)) (answer : List PeriodRo
 
 -- ---- from a day to the next
 
--- a snapshot stays the same in values that no row has that starts or ends
+-- a snapshot has the same values on two days if no row with them starts or ends between
 snapshot_step :
     (rows : List PeriodRow) (day prev : ℤ) (values : List Value) → prev +ℤ pos 1 ≡ day → (ChangesOn rows day values → ⊥)
     → (InSnapshot rows prev values ↔ InSnapshot rows day values)

@@ -132,7 +132,7 @@ both_lists-seen = refl
 end-change_day : IsChangeDay ((whole ∷ []) ∷ []) (pos 5)
 end-change_day = inr (whole ∷ [], Contains-here (whole ∷ []) [], (whole, Contains-here whole [], inr refl))
 
--- a day within it is none
+-- a day within the row is no day of change
 within-no_change_day : IsChangeDay ((whole ∷ []) ∷ []) (pos 3) → ⊥
 within-no_change_day (inl is) = let first : neg_ℤ (pos 719_162) ≡ pos 3 = is in omega (arith, ints)
 within-no_change_day (inr (rows, c, (row, inside, ends))) =

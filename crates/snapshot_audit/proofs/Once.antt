@@ -35,7 +35,7 @@ set_from_once InSet items once same is = record {
 strictly : (a b : List Value) → values_cmp a b ≡ Less → values_cmp b a ≡ Less → ⊥
 strictly a b p q = let back : values_cmp b a ≡ Greater = values_cmp_total.antisymm b a ∙ ap ordering_reverse p in cc
 
--- a list of the same set by another name
+-- a list of a set is a list of an equal set
 pub set_by :
     (InOne InOther : List Value → Type 0) (list : List (List Value)) → ListsSet InOne list
     → ((values : List Value) → (InOne values ↔ InOther values)) → ListsSet InOther list

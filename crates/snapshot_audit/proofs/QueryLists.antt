@@ -47,7 +47,7 @@ rows_staggered tables (one select) lists (rows, is, staggered, agrees) =
 rows_staggered tables (both operator left right) lists (first, second, is, l, r) =
     subst (All AreStaggered) (sym is) (All-append AreStaggered first second (rows_staggered tables left first l) (rows_staggered tables right second r))
 
--- on each day that a period can cover they make the query's set
+-- on each day that a period can cover the rows make the query's set
 pub rows_make :
     (tables : List (List PeriodRow)) (query : Query) (lists more : List (List PeriodRow)) (day : ℤ) (values : List Value) → IsDay day
     → AreRowsOf tables query lists → (InLists query (lists ++ more) day values ↔ InAnswerOver query tables day values)

@@ -29,7 +29,7 @@ in_front front next rest p value inside is =
     ∙ slice_get-get_or front p value inside
     ∙ ap Some (sym is)
 
--- a value of those after them
+-- the value at a position of the second row
 pub in_next :
     (front next rest : List Value) (p q : ℕ) (value : Value) → length front ≤ p → q ≡ p - length front → q < length next
     → value ≡ get_or next q value → slice_get ((front ++ next) ++ rest) p ≡ Some value

@@ -36,7 +36,7 @@ pub record IsDoneWith (right others rest : List (List Value)) : Type 0 where
 pub done_with_none : (right rest : List (List Value)) → IsAscending right → IsDoneWith right right rest
 done_with_none right rest up = record { ascending = up; inside = λ other c. c; passed = λ other c. inl c }
 
--- the others that are not below the next values
+-- the rest of the right set, without values below the next ones
 pub record AreNotBelow (values : List Value) (others next : List (List Value)) : Type 0 where
   pub ascending : IsAscending next
   pub inside : (other : List Value) → Contains next other → Contains others other
@@ -73,7 +73,7 @@ among_right right others next rest values is by = (
   ],
 )
 
--- the other set lacks the values
+-- the right set lacks the values
 abbrev pub Lacks : List (List Value) → List Value → Type 0
 Lacks right values = Contains right values → ⊥
 
@@ -183,7 +183,7 @@ module _ (Keeps : List Value → Type 0) (left right : List (List Value)) where
         members = λ values. subst (λ l. Contains set values ↔ (Contains l values × Keeps values)) all (old.kept.members values);
       }
 
--- the others without some of the first ones, which are less than the values
+-- the right set without some of the first ones, which are less than the values
 pub record ArePassed (values : List Value) (others rest : List (List Value)) : Type 0 where
   pub ascending : IsAscending rest
   pub inside : (other : List Value) → Contains rest other → Contains others other

@@ -77,7 +77,7 @@ pub not_true : (b : Bool) → (b ≡ true → ⊥) → not b ≡ true
 not_true true h = absurd (h refl)
 not_true false h = refl
 
--- values that are held on a day are held on the same day by another name
+-- values that are held on a day are held on an equal day
 pub held_then :
     (rows : List PeriodRow) (values : List Value) {a b : ℤ} → InSnapshot rows a values → a ≤ℤ b → b ≤ℤ a
     → InSnapshot rows b values

@@ -248,7 +248,7 @@ module _
       let less : k < n = begun k row inside at same from in
       omega arith
 
-  -- the last of them holds the values on the day, or no row does
+  -- the last row that has begun holds the values on the day, or no row does
   pub last_of_begun :
       (last : PeriodRow) → 0 < n → n ≤ length rows → last ≡ get_or rows (n - 1) last
       → (((last.values ≡ values) × (day <ℤ last.period.end)) ↔ InSnapshot rows day values)

@@ -23,7 +23,7 @@ AgreesOn InSet rows day = HaveSameMembers (InSnapshot rows day) (InSet day)
 abbrev pub AgreesAlways : (ℤ → List Value → Type 0) → List PeriodRow → Type 0
 AgreesAlways InSet rows = (day : ℤ) → IsDay day → AgreesOn InSet rows day
 
--- the least day on which it is not so
+-- the least day on which the rows do not have the set
 pub record IsFirstDifference (InSet : ℤ → List Value → Type 0) (rows : List PeriodRow) (day : ℤ)
     : Type 0 where
   pub is_day : IsDay day

@@ -82,7 +82,7 @@ reads_varying : Reads IsVarying Any varying_read
 reads_varying =
     reads_built Varchar (reads_preceded (keyword (codes "CHARACTER")) (reads_preceded (keyword (codes "VARYING")) reads_length))
 
--- each keyword but those before it decides
+-- the first of the keywords that is next decides the type
 reads_type : Reads IsType (Next after_type) type_read
 unfolding type_read
 reads_type =

@@ -1,4 +1,4 @@
--- Conditions and their tests, if so much room is left for parentheses.
+-- Conditions and their tests, by the room that is left for parentheses.
 use Rattle.std.proofs.Common.{◌≡◌, ℕ, zero, suc, false, List, refl, codes}
 use Rattle.sql_statements.specs.declared.statement.Comparison.{Comparison}
 use Rattle.sql_statements.specs.declared.statement.Comparison.TheVariants.{Equal, NotEqual, Less, LessOrEqual, Greater, GreaterOrEqual}
@@ -76,7 +76,7 @@ module _ {T : Type 0} {Test : Language T} (tests : (k : ℕ) → Level k Test Te
       let conjunction : Level k (IsConjunction Test L) (IsConjunction Test M) = level_built all_of (level_separated (plain_keyword (codes "AND")) factor) in
       level_built any_of (level_separated (plain_keyword (codes "OR")) conjunction)
 
-  -- a condition with so much room is one of that depth
+  -- a condition within the room for parentheses is a condition of that depth
   pub level_condition : (n k : ℕ) → Level k (ConditionBelow Test n) (ConditionBelow Test (suc k))
   unfolding ConditionBelow
   level_condition zero k = record { keeps = λ x a j h e. absurd h }

@@ -88,7 +88,7 @@ begins_if : (a b : Lexeme → Bool) → ((t : Lexeme) → a t ≡ true → b t �
 begins_if a b h [] e = absurd cc
 begins_if a b h (t ∷ z) e = h t e
 
--- each text of the language begins with such a token
+-- each text of the language begins with a token that passes the test
 pub record Starts {A : Type 0} (test : Lexeme → Bool) (L : List Lexeme → A → Type 0) : Type 0 where
   pub at : (x : List Lexeme) (a : A) (z : List Lexeme) → L x a → begins test (x ++ z) ≡ true
 

@@ -87,7 +87,7 @@ reads_decided {A} d {L} {F} {p} {M} {G} {q} r s first second = record {
 pub reads_weaken : {A : Type 0} {L : List Lexeme → A → Type 0} {F : List Lexeme → Type 0} (G : List Lexeme → Type 0) {p : Reader A} → ((rest : List Lexeme) → G rest → F rest) → Reads L F p → Reads L G p
 reads_weaken G less r = record { found = r.found; again = λ front a rest h follow. r.again front a rest h (less rest follow) }
 
--- the next token decides which it is
+-- the next token decides which of two languages a text is of
 pub reads_choice : {A : Type 0} {test other : Lexeme → Bool} {L M : List Lexeme → A → Type 0} {F : List Lexeme → Type 0} {p q : Reader A} → Starts test L → Starts other M → Apart other test → Reads L F p → Reads M F q → Reads (Choice L M) F (choice_read (begins test) p q)
 reads_choice {A} {test} {other} {L} {M} {F} {p} {q} s n apart r1 r2 = record {
   found = (reads_decided (begins test) r1 r2 (λ x a rest h f. s.at x a rest h) (λ x a rest h f. begins_apart apart (x ++ rest) (n.at x a rest h))).found;

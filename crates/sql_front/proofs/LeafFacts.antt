@@ -65,7 +65,7 @@ only : (o : Option ℤ) (other : ℤ) (P : ℤ → Type 0) → ((n : ℤ) → P 
 only (Some m) other P found n h = sym (some_is m n (found n h))
 only None other P found n h = absurd (none_some n (found n h))
 
--- unless none is named, it is the one that is read
+-- the day that a token names is the one that is read, unless the token names none
 pub day_named : (token : List ℕ) → ((IsDateToken token → ⊥) → ⊥) → NamesDay token (day_value token)
 unfolding day_value
 day_named token some = named (day_of_token token) first_day (NamesDay token) (day_shown token) (day_found token) some

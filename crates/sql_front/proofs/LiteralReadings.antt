@@ -52,7 +52,7 @@ module _ {B : Type 0} {first second : Lexeme → Bool} where
   two_related R x b t r =
       ((tt, b), refl, (t.one ∷ [], t.other ∷ [], t.at, (t.one, t.begins, refl), (t.other.text, r, (t.other, t.ends, refl, refl))))
 
-  -- the exact reading, the reading by this function, and any
+  -- the exact reading, the reading by a function, and any reading
   module _ (R : List ℕ → B → Type 0) (read : List ℕ → B) (only : (w : List ℕ) (b : B) → R w b → b ≡ read w) where
     two_exact : (x : List Lexeme) (b : B) → ((t : Two first second x) → R t.other.text (read t.other.text)) → SecondReads first second read x b → SecondIs first second R x b
     two_exact x b named h =

@@ -130,7 +130,7 @@ module _ {A : Type 0} (d : List Lexeme → Bool) (p : Reader A) where
   going_fails error.Memory front rest whole goes some e g = tt
   going_fails error.Syntax front rest whole goes some e g = going_fails_by g.count front rest whole goes e (some_tokens rest g.count some g.enough) g.makes
 
--- a list that begins so is not empty
+-- a list that begins with a token that passes is not empty
 pub begins_some : (test : Lexeme → Bool) (rest : List Lexeme) → begins test rest ≡ true → 0 < length rest
 begins_some test [] e = absurd cc
 begins_some test (t ∷ rest) e = omega arith

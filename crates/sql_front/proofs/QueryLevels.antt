@@ -45,7 +45,7 @@ level_query_of n k L M r =
     let operator = level_choice (level_of_token k Union (plain_keyword (codes "UNION"))) (level_of_token k Except (plain_keyword (codes "EXCEPT"))) in
     level_built combined_of (level_sequence term (level_repetition (level_sequence operator (level_preceded_or_not (plain_keyword (codes "DISTINCT")) term))))
 
--- a query with so much room is one of that depth
+-- a query within the room for parentheses is a query of that depth
 pub level_query : (n k : ℕ) → Level k (QueryBelow placeholders n) (QueryBelow placeholders (suc k))
 unfolding QueryBelow
 level_query zero k = record { keeps = λ x a j h e. absurd h }

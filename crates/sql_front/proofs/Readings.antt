@@ -72,7 +72,7 @@ pub record Readings {A : Type 0} (Exact Read Loose : Language A) : Type 0 where
   pub sharp : (x : List Lexeme) (a : A) → NoFault x → Read x a → Exact x a × (ends_in_minus x ≡ false)
   -- each exact reading is a reading
   pub known : (x : List Lexeme) (a : A) → Exact x a → Read x a
-  -- each reading is one of any values
+  -- each reading is a reading with some values
   pub loose : (x : List Lexeme) (a : A) → Read x a → Loose x a
   -- if any value is spelled, some value is read
   pub some : (x : List Lexeme) (a : A) → Loose x a → (b : A) × Read x b

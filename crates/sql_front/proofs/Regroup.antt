@@ -47,7 +47,7 @@ module _ {A : Type 0} (sep : Lexeme → Bool) (L : List Lexeme → A → Type 0)
   abbrev AllAndLast : List Lexeme → List A × A → Type 0
   AllAndLast = Sequence (Separated sep L) (Preceded sep L)
 
-  -- all, and one more after a separator, are all of them
+  -- all parts but the last, and the last after a separator, are all parts
   pub joined : (ts : List Lexeme) (v : List A × A) → AllAndLast ts v → (a : A) × (more : List A) × (v.0 ≡ a ∷ more) × Separated sep L ts (a ∷ (more ++ v.1 ∷ []))
   joined ts v h =
       let front = h.3 in

@@ -96,7 +96,7 @@ by_room : (k : ℕ) (ts : List Lexeme) (s : Statement) → (IsDeeper k ts → �
 by_room k ts s shallow h None e = absurd (shallow (none_deeper k ts e))
 by_room k ts s shallow h (Some j) e = ((level_statement h.0 k).keeps ts s j h.1 e).1
 
--- a statement whose tokens are not deeper than this is read at this depth
+-- a statement whose tokens are not deeper than k is read at depth k
 pub at_depth : (k : ℕ) (ts : List Lexeme) (s : Statement) → (IsDeeper k ts → ⊥) → IsStatement ts s → StatementBelow (suc k) ts s
 at_depth k ts s shallow h = by_room k ts s shallow h (room k ts) refl
 

@@ -18,7 +18,7 @@ left_out : {X Y : Type 0} (h : X → Option Y) (xs : List X) (x : X) → h x ≡
     → filter_map h (xs ++ x ∷ []) ≡ filter_map h xs
 left_out h xs x e = filter_map-append h xs (x ∷ []) ∙ rw e (append-nil (filter_map h xs))
 
--- each kind is as it was, but for the one that e is of
+-- the elements of each kind after one element more
 pub table_pushed : (name : List ℕ) (es : List Element) (e : Element)
     → with_element (table_of (name, (es, tt))) e ≡ table_of (name, (es ++ e ∷ [], tt))
 table_pushed name es (column_element c) =

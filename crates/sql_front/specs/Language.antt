@@ -68,7 +68,7 @@ OneToken test lexemes written =
 abbrev pub Fixed : (Lexeme → Bool) → Language (Unit {0})
 Fixed test lexemes nothing = (one : Lexeme) × (test one ≡ true) × (lexemes ≡ one ∷ [])
 
--- the one, then the other: the tokens are split at some place
+-- one language, then the other: the tokens are split at some place
 abbrev pub Sequence : {A B : Type 0} → Language A → Language B → Language (A × B)
 Sequence L M lexemes pair =
     (x : List Lexeme) × (y : List Lexeme) × (lexemes ≡ x ++ y) × L x pair.0 × M y pair.1

@@ -13,7 +13,7 @@ front bytes i h = rw (add-one, drop-cons bytes i 0) refl
 
 -- ---- the first bytes that meet a test
 
--- a byte that passes is one more of the prefix
+-- a byte that passes lengthens the prefix by one
 pub prefix_on : (p : ℕ → Bool) (bytes : List ℕ) (i total : ℕ) → i < length bytes → true ≡ p (get_or bytes i 0)
     → total ≡ i + prefix_len p (drop i bytes) → total ≡ (i + 1) + prefix_len p (drop (i + 1) bytes)
 prefix_on p bytes i total h yet so_far =

@@ -53,7 +53,7 @@ narrowed p text within (w ∷ words) = go (p (length w)) refl (narrowed p text w
 abbrev pub from_to : ℕ → ℕ → ℕ → Bool
 from_to least most n = leb least n && leb n most
 
--- the words of these lengths alone
+-- the reserved words of some lengths alone
 abbrev pub of_length : ℕ → ℕ → List (List ℕ)
 of_length least most = filter (λ w. from_to least most (length w)) reserved
 

@@ -2,7 +2,7 @@
 use Rattle.std.specs.Prelude.{◌+◌, ◌<◌, length}
 use Rattle.sql_statements.specs.declared.create.CreateTable.{CreateTable}
 
--- there is one, of some kind
+-- the CREATE TABLE has an element of some kind
 abbrev pub HasElement : CreateTable → Type 0
 HasElement t =
     0 < length t.columns + length t.periods + length t.system_periods

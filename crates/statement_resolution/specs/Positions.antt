@@ -57,13 +57,13 @@ abbrev pub resolved_assignment : TableDef → written.Assignment → Option Assi
 resolved_assignment t a =
     option_map (λ n. record { position = n; value = a.value }) (value_position t a.column)
 
--- a condition with positions: each test resolves the one in its place
+-- a condition with positions: each test is the one that stands for it
 abbrev pub ResolvesTests
     : {T R : Type 0} → (T → Option R) → Condition T → Tree R → Type 0
 ResolvesTests numbered c resolved =
     map_condition numbered c ≡ map_condition (λ leaf. Some leaf) (plain_condition resolved)
 
--- a WHERE with positions: both are absent, or the second resolves the first
+-- a WHERE with positions: both are absent, or each stands for the other
 abbrev pub ResolvesWhere
     : {T R : Type 0} → (T → Option R) → Option (Condition T) → Option (Tree R) → Type 0
 ResolvesWhere numbered None None = Unit {0}

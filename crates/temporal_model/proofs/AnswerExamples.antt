@@ -36,7 +36,7 @@ shown_by held absent = record { held = held; absent = absent }
 witness-of_first_day : witness_of (number_over (pos 7) (neg_ℤ (pos 719_162)) (pos 0) refl) ≡ shown_by (neg_ℤ (pos 719_162)) None
 witness-of_first_day = refl
 
--- alone in its list it is held on day 5, and not on day 4
+-- alone in its list the row is held on day 5, and not on day 4
 alone-witnessed : IsWitness (InSnapshot (middle ∷ [])) middle (shown_by (pos 5) (Some (pos 4)))
 alone-witnessed = record {
   days = refl;
@@ -59,6 +59,6 @@ values-before_days zero (suc (suc j)) d lt below = absurd (omega arith)
 values-before_days (suc i) zero d lt below = absurd (omega arith)
 values-before_days (suc i) (suc j) d lt below = absurd (omega arith)
 
--- the two rows the other way round
+-- the two rows in the other order
 other_way_round-not_in_order : IsInAnswerOrder (late ∷ middle ∷ []) → ⊥
 other_way_round-not_in_order up = let before : Greater ≡ Less = up 0 1 late (omega arith) (omega arith) in cc

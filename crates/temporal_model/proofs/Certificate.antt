@@ -15,7 +15,7 @@ use Rattle.temporal_model.proofs.AnswerOrder.{strictly}
 use Rattle.temporal_model.proofs.Members.{pigeonhole, onto, permutation_from_members, same_from_members}
 use Rattle.temporal_model.proofs.Snapshots.{InSnapshot-start, held, in_snapshot}
 
--- each row has an equivalent list's row of the same values that begins on the same day
+-- each row has a row of an equivalent list with the same values and first day
 pub begins_in :
     (rows others : List PeriodRow) → IsCertified rows → Equivalent rows others → (row : PeriodRow)
     → Contains rows row → (other : PeriodRow) × Contains others other × SameBeginning row other
@@ -67,7 +67,7 @@ absent_at_end rows certified row c h =
     let ends : row.period.end ≡ other.period.end = ap (λ (r : PeriodRow). r.period.end) one in
     omega (arith, ints)))
 
--- each row of an equivalent list that is no longer begins as a row of the certified list does
+-- each row of an equivalent list that is no longer begins as some row of the certified list
 pub begins_back :
     (rows others : List PeriodRow) → IsCertified rows → Equivalent rows others
     → length others ≤ length rows → (other : PeriodRow) → Contains others other
@@ -76,7 +76,7 @@ begins_back rows others certified same short =
     onto SameBeginning rows others (begins_in rows others certified same)
     (λ i j d lt below other a b. certified.distinct i j d lt below (a.0 ∙ sym b.0, a.1 ∙ sym b.1)) short
 
--- an equivalent list that is no longer has each row
+-- an equivalent list that is no longer has each row of the certified list
 pub inside_equivalent :
     (rows others : List PeriodRow) → IsCertified rows → Equivalent rows others
     → length others ≤ length rows → (row : PeriodRow) → Contains rows row → Contains others row
@@ -104,7 +104,7 @@ unique rows certified others same lengths =
     permutation_from_members rows others (inside_equivalent rows others certified same (omega arith))
     (λ i j d lt below equal. certified.distinct i j d lt below (ap (λ (r : PeriodRow). r.values) equal, ap (λ (r : PeriodRow). r.period.start) equal)) (omega arith)
 
--- two answers with the same snapshots
+-- two certified answers with the same snapshots have the same rows
 pub same_rows :
     (rows others : List PeriodRow) → IsCertified rows → IsInAnswerOrder rows → IsShortest others
     → IsInAnswerOrder others → Equivalent rows others → rows ≡ others

@@ -29,7 +29,7 @@ Contains-one x y c = elim (Contains-cons_cases x [] y c) [
   | inr k ↦ absurd (Contains-nil y k)
 ]
 
--- a fact of all pairs of a list is one of all pairs of its rest
+-- a relation of all pairs of a list holds of all pairs of its rest
 pub AllPairs-tail :
     {X : Type 0} (R : X → X → Type 0) (x : X) (xs : List X) → AllPairs R (x ∷ xs) → AllPairs R xs
 AllPairs-tail R x xs all = λ i j d lt below. all (suc i) (suc j) d (omega arith) (omega arith)
@@ -46,7 +46,7 @@ pub rest_of :
     → (rest : List X) × IsPermutation ys (y ∷ rest)
 rest_of ys y (k, h, e) = (remove ys k, IsPermutation-remove ys k y h (sym e))
 
--- no member is the image of both
+-- no member is the image of two elements
 abbrev pub NoImageShared : {X : Type 0} → (X → X → Type 0) → X → X → Type 0
 NoImageShared {X} S a b = (y : X) → S a y → S b y → ⊥
 

@@ -28,7 +28,7 @@ use Rattle.version_store.specs.Changed.{with_table}
 use Rattle.version_store.specs.StoreState.{IsFailure, StoreState, StoreRepresents}
 use Rattle.version_store.specs.Written.{Has, written, written_table}
 
--- a weaker fact holds of an Ok too
+-- a property of Ok implies a weaker one
 pub on_ok : {X E : Type 0} {P Q : Type 0} (r : Result X E) → (P → Q) → OnOk r P → OnOk r Q
 on_ok (Ok x) f h = f h
 on_ok (Err e) f h = tt

@@ -6,7 +6,7 @@ use Rattle.version_tables.specs.Tables.{HasStoreTables}
 use Rattle.version_tables.proofs.Keeping.{keeps_same, keeps_then}
 use Rattle.version_store.specs.StoreState.{IsUsable, SparesOthers}
 
--- a call that changes nothing spares them
+-- a call that changes nothing spares the other tables
 pub spares_same : {S : Type 0} (g : Ghosts S) (a b : Held S) → (IsUsable g b → (state g b).now ≡ (state g a).now) → SparesOthers g a b
 spares_same g a b same usable clean has = keeps_same _ _ (same usable)
 

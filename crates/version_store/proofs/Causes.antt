@@ -28,7 +28,7 @@ use Rattle.version_store.specs.declared.fault.StoreFault.TheVariants.{Memory}
 use Rattle.version_store.proofs.Leaves.{new_of}
 use Rattle.version_store.proofs.Sweeps.{same_bytes}
 
--- the cause of a step is one of all steps so far
+-- the cause of a step is a cause of all steps so far
 pub caused_then : (a b c : State) → HasCleanDisk b → Survives a b (λ _. ⊥) → Survives b c (λ _. ⊥) → (fault : StoreFault) → IsCaused b c fault → IsCaused a c fault
 caused_then a b c clean first next fault = reason_then (fault ≡ Memory) a b c clean first next
 

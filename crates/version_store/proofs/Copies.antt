@@ -110,7 +110,7 @@ only_read_same g store = record {
   faults = record { faults = omega arith; limit = refl };
 }
 
--- ---- no table, and all of them
+-- ---- no table, and all tables
 
 module _ (c : Contents) (tabled : HaveTables c) where
   pub up_to_none : up_to 0 c ≡ record c { versions = [] }

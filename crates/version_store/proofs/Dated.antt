@@ -1,4 +1,4 @@
--- Versions have days and moments, and go on having them.
+-- Versions have days and moments, before a change and after it.
 use Rattle.std.proofs.Common.{◌∷◌, ℕ, ℤ, Bool, true, false, cond, List, [], arith, map}
 use Rattle.std.specs.List.{flat_map}
 use Rattle.std.specs.Ordering.{int_cmp, is_eq}
@@ -50,7 +50,7 @@ module _ (table : ℕ) (moment : ℤ) (at : IsMomentNumber moment) where
     all_added_dated added,
   )
 
-  -- a plan leaves versions dated, and adds such
+  -- a plan leaves versions dated, and adds dated ones
   pub planned_dated : (ended : List VersionRow) (added : List PeriodRow) (c : Contents) → AreDated c.versions → AreDated (planned table moment ended added c).versions
   planned_dated ended added c dated =
       all-append IsDated (flat_map (remains_of table moment ended) c.versions) (map (added_in table moment forever) added) (all_left_dated ended c.versions dated) (all_added_dated added)

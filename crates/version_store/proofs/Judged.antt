@@ -1,4 +1,4 @@
--- Rows judged as definitions and versions: each row is one of at most one thing.
+-- Rows judged as definitions and versions: each row is a definition or a version in at most one way.
 use Rattle.std.proofs.Common.{◌≡◌, ◌+◌, ◌<◌, ◌≤◌, ◌∙◌, ◌∷◌, ◌++◌, ℕ, zero, suc, ℤ, pos, List, [], Some, append_assoc, arith, get_or, length, refl, subst, subst₂, sym, ap, take, true}
 use Rattle.std.specs.Prelude.{slice_get}
 use Rattle.std.specs.List.{All, AllByRecursion}

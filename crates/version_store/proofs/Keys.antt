@@ -24,7 +24,7 @@ versions_apart (v ∷ vs) held apart = (go vs held.1 apart.0, versions_apart vs 
     go [] held apart = tt
     go (w ∷ ws) held2 apart = (sym (same_bytes v w held.0 held2.0) ∙ sym (alike-stored (written_version v) (written_version w)) ∙ apart.0, go ws held2.1 apart.1)
 
--- the versions of such a database have distinct keys
+-- the versions of a store's database have distinct keys
 pub keys_kept : (db : Database) → HasStoreTables db.schema → IsDatabase db → HaveDistinctRowids (db.trees 2) → AllByRecursion (λ r. is_int (rowid r) ≡ true) (db.trees 2) → KeepsKeys db
 keys_kept db has sound untied ints vs held same =
     versions_apart vs held (ascending_from_map (λ a b. alike b a ≡ false) stored_version vs (shown_differ (db.trees 2) (map stored_version vs) untied ints (database_apart db has sound) same))

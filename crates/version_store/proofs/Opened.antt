@@ -13,7 +13,7 @@ use Rattle.version_store.specs.Units.{in_microseconds}
 use Rattle.version_store.specs.Written.{Has, HasIn, written_in}
 use Rattle.version_store.proofs.Units.{moved_is, same_units, values_in}
 
--- a store of form 2 has what it is opened with
+-- a store of form 2 has the contents that it is opened with
 pub opened_new : {S : Type 0} (g : Ghosts S) (store : StoreState S) (c : Contents) → StoreRepresents g store c
     → OpenedRepresents g (let opened : OpenedState S = record { store = store; form = Microseconds } in opened) c
 opened_new g store c was = record {

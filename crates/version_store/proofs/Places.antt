@@ -69,7 +69,7 @@ module _ (table : ℕ) (moment : ℤ) (k : VersionKey) (v : Version) where
           ap (λ b. b || is_pending table moment ps v) is ∙ or_twice (same_key (key_at table moment k) v) (is_pending table moment ps v) ∙ ap (λ b. same_key (key_at table moment k) v || (b || is_pending table moment ps v)) (sym is)
       go Greater e more = ap (λ b. same_key (key_at table moment x) v || b) more ∙ or_moved (same_key (key_at table moment x) v) (same_key (key_at table moment k) v) (is_pending table moment ps v)
 
-  -- a place that was there is none
+  -- one place fewer is still to be removed
   pub one_fewer : (ps : List VersionKey) → list_any (is_at (place_cmp k)) ps ≡ true → is_pending table moment ps v ≡ (same_key (key_at table moment k) v || is_pending table moment (remove_key (is_at (place_cmp k)) ps) v)
   one_fewer [] member = absurd (true≢false (sym member))
   one_fewer (x ∷ ps) member = go (is_at (place_cmp k) x) refl member (one_fewer ps)
@@ -80,7 +80,7 @@ module _ (table : ℕ) (moment : ℤ) (k : VersionKey) (v : Version) where
       go true e member more = ap (λ b. b || is_pending table moment ps v) (same x e)
       go false e member more = ap (λ b. same_key (key_at table moment x) v || b) (more member) ∙ or_moved (same_key (key_at table moment x) v) (same_key (key_at table moment k) v) (is_pending table moment (remove_key (is_at (place_cmp k)) ps) v)
 
-  -- nothing leaves from a place that is none
+  -- no version leaves from a place that is not in the set
   pub apart : v.values ≡ k.values.items → v.start ≡ k.start → (ps : List VersionKey) → list_any (is_at (place_cmp k)) ps ≡ false → is_pending table moment ps v ≡ false
   apart values start [] none = refl
   apart values start (x ∷ ps) none =

@@ -74,7 +74,7 @@ pub others_stay : (ls : List (List VersionRow)) (place : ℕ) (new : List Versio
 others_stay ls place new zero off = refl
 others_stay ls place new (suc other) off = set_elsewhere ls place other new (λ same. off (ap suc same))
 
--- a row more in one of them
+-- a row more in one table's list
 pub has_more : (ls : List (List VersionRow)) (place : ℕ) (old new : List VersionRow) (row : VersionRow) → slice_get ls place ≡ Some old → new ≡ old ++ row ∷ [] → HasMore (suc place) row ls (set ls place new)
 has_more ls place old new row there made = record {
   count = length-set ls place new;
@@ -102,7 +102,7 @@ read_as form tables clock row n b read (v, is, good) number bytes same held time
 
 -- ---- rows
 
--- the rows before the rest are read as these lists, one for each table
+-- the rows before the rest are read as lists, one for each table
 pub record AreReadBefore (form : Form) (tables : List TableDef) (clock : ℤ) (rows rest : List Row) (lists : List (List VersionRow)) : Type 0 where
   pub versions : List TableVersion
   pub spelled : rows ≡ map stored_version versions ++ rest
@@ -177,7 +177,7 @@ all_read form tables clock rows rest lists end was = record {
   listed = was.listed;
 }
 
--- a row that is not one of them
+-- a row that is not one of the read rows
 pub not_all : (P : Row → Type 0) (rows front rest left : List Row) (row : Row) → rows ≡ front ++ rest → rest ≡ row ∷ left → ¬ P row → ¬ AllByRecursion P rows
 not_all P rows front rest left row is next none all = none (all_behind P front row left (subst (AllByRecursion P) (is ∙ ap (λ (l : List Row). front ++ l) next) all))
 

@@ -59,7 +59,7 @@ module _ (row : Row) (v : TableVersion) (is : row ≡ shown (written_version v))
     pub to_in : (n : ℤ) × IsNumberAt row 4 n × IsNumberIn form n
     to_in = (v.to, number_in 4 v.to (omega arith, refl), number_of_end form v.to dated.to)
 
--- the row of bt_version has them too
+-- the row of bt_version has these numbers too
 module _ (row : Row) (v : TableVersion) (is : row ≡ stored (written_version v)) where
   number_stored : (at : ℕ) (n : ℤ) → IsNumberAt (stored (written_version v)) at n → IsNumberAt row at n
   number_stored at n there = rw is there

@@ -93,7 +93,7 @@ as_given = map (λ (v : TableVersion). shown (written_version v))
 abbrev pub Took : {M : Type 0} → Form → (M → VersionRow → M) → ℕ → M → M → List TableVersion → Type 0
 Took form next table old new versions = (rows : List VersionRow) × (map (version_in table) rows ≡ map (version_of form) versions) × (new ≡ fold next old rows)
 
--- rows were given: whatever versions of the table they show, it took those
+-- the visitor took the versions of the table that the given rows show
 abbrev pub TookShown : {M : Type 0} → Form → (M → VersionRow → M) → ℕ → M → M → List Row → Type 0
 TookShown form next table old new given =
     (done : List TableVersion) → AllByRecursion (λ (v : TableVersion). (v.table == table) ≡ true) done → HaveColumnValues done → given ≡ as_given done
@@ -216,7 +216,7 @@ visits form next c table selection chooses old new result found given more sure 
 pub visits_same : {M X : Type 0} (next : M → VersionRow → M) (c d : Contents) (table : ℕ) (chooses : ℤ → ℤ → Bool) (old new : M) (result : Result X Refusal) → c ≡ d → VisitsChosen next c table chooses old new result → VisitsChosen next d table chooses old new result
 visits_same next c d table chooses old new result same visited = subst (λ (e : Contents). VisitsChosen next e table chooses old new result) same visited
 
--- a visitor that keeps each row of a scan keeps them all
+-- a visitor that collects each row of a scan collects all rows
 kept_all : (before rows : List VersionRow) → fold (λ (kept : List VersionRow) (row : VersionRow). kept ++ row ∷ []) before rows ≡ before ++ rows
 kept_all before [] = sym (append-nil before)
 kept_all before (row ∷ rows) = kept_all (before ++ row ∷ []) rows ∙ append_assoc before (row ∷ []) rows
@@ -289,7 +289,7 @@ module _ {S M : Type 0} (g : Ghosts S) (form : Form) (next : M → VersionRow �
       → TookOne form next mid new row → HasVisited g form next table selection first now old new
   one_visited before now old mid new was row after gives is taken = (was.0 ++ row ∷ [], rw is at gives, one_more form next table old mid new was.0 row was.2 taken)
 
-  -- a refusal, if the query has given the rows so far
+  -- a visitor's refusal, if the query has given the rows so far
   pub some_visits : (now : Held S) (old mid new : M) (refusal : Refusal) → HasVisited g form next table selection first now old mid → new ≡ mid → HasCleanDisk (state g now) → (c : Contents) → HasIn form (state g first).now c
       → (chooses : ℤ → ℤ → Bool) → Selects form selection chooses → VisitsChosen next (in_microseconds form c) table chooses old new (let r : Result (Unit {0}) Refusal = Err refusal in r)
   some_visits now old mid new refusal was same clean c has chooses sure =

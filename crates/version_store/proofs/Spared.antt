@@ -11,7 +11,7 @@ use Rattle.period_core.specs.declared.version.VersionRow.{VersionRow}
 use Rattle.version_store.specs.Contents.{Contents, TableVersion, added_in, of_table}
 use Rattle.version_store.specs.Changed.{closed_at, ended_at, is_ended, remains_of, planned}
 
--- a test that no ended version passes, and that does not read where a version ends, finds what it found
+-- a test that no ended version passes, and that reads no end of a version, finds what it found before
 spared : (table : ℕ) (moment : ℤ) (ended : List VersionRow) (p : TableVersion → Bool) → ((v : TableVersion) → is_ended table ended v ≡ true → p v ≡ false)
     → ((v : TableVersion) → p (record v { to = moment }) ≡ p v) → (vs : List TableVersion) → filter p (flat_map (remains_of table moment ended) vs) ≡ filter p vs
 spared table moment ended p off keeps [] = refl

@@ -1,4 +1,4 @@
--- Contents with their moments in microseconds: what is true of them as they are counted is true so.
+-- Contents with their moments in microseconds: facts of them in their own unit are facts in microseconds.
 use Rattle.std.proofs.Common.{◌≡◌, ◌⊎◌, inl, inr, ◌∙◌, ◌≤ℤ◌, ◌<ℤ◌, ℤ, ℕ, List, [], ◌∷◌, map, Bool, true, false, refl, sym, ap, length, subst, subst₂, arith, Some, get_or, ◌+◌, ◌<◌}
 use Rattle.std.specs.Prelude.{IsSorted, if◌then◌else◌}
 use Rattle.std.specs.List.{AllByRecursion}
@@ -35,13 +35,13 @@ all_same : (vs : List TableVersion) → map (version_of Microseconds) vs ≡ vs
 all_same [] = refl
 all_same (v ∷ vs) = ap (λ l. v ∷ l) (all_same vs)
 
--- contents in microseconds are as they are counted
+-- contents in microseconds are the same in microseconds
 pub same_units : (c : Contents) → in_microseconds Microseconds c ≡ c
 same_units c = ap (λ (vs : List TableVersion). record c { versions = vs }) (all_same c.versions)
 
 -- ---- one moment
 
--- the end of a second before the last is where it begins
+-- the end of a second before the last is the beginning of the second
 not_last : (s : ℤ) → s <ℤ last_second → moved_end s ≡ second_start s
 not_last s less = go (int_eq s last_second) refl
   where

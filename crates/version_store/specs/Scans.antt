@@ -53,7 +53,7 @@ abbrev pub Selects : Form → Selection → (ℤ → ℤ → Bool) → Type 0
 Selects form selection chooses =
     (from to : ℤ) → chooses (moment_in form from) (end_in form to) ≡ selects selection from to
 
--- the visitor took such rows in turn, from one meaning to another; on Ok there is no other
+-- the visitor took chosen rows in turn, from one meaning to another; on Ok there is no other
 abbrev pub VisitsChosen : {M X : Type 0} → (M → VersionRow → M) → Contents → ℕ → (ℤ → ℤ → Bool)
     → M → M → Result X Refusal → Type 0
 VisitsChosen next c table chooses old new result =

@@ -15,7 +15,7 @@ pub fn plans_leave_other_tables()
     ensures { PlansLeaveOtherTables }
 {}
 
-/// The versions that are not among the rows that end stay.
+/// Versions stay that are not among the rows that end.
 pub fn others_stay()
     ensures { OthersStay }
 {}

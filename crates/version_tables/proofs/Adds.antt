@@ -103,7 +103,7 @@ shows_numbered : (first : ℤ) (vs : List Version) (rows : List Row) → map ver
 shows_numbered first [] rows = refl
 shows_numbered first (v ∷ vs) rows = ap (λ l. stored v ∷ l) (shows_numbered (first +ℤ pos 1) vs (put_row (Int first ∷ stored v) rows))
 
--- ---- a text of such terms
+-- ---- a text that adds rows
 
 module _ (text : List ℕ) (terms : List Term) (params : Row) (laid : List Row) (vs : List Version) (is : (others : Others) → AddsTerms others terms text)
     (gives_laid : value_rows params 7 (length terms / 7) terms ≡ laid) (casts_laid : map (λ s. cast_row (version_table 2) (drop 0 s)) laid ≡ laid)
@@ -147,7 +147,7 @@ module _ (text : List ℕ) (terms : List Term) (params : Row) (laid : List Row) 
   adds_inside old new (Err e) h begun = tt
   adds_inside old new (Ok count) h begun = (h.1.mode, λ m was. adds old new count m was h.0)
 
--- ---- why such a text fails, and what it leaves for the next
+-- ---- why a text that adds rows fails, and what it leaves for the next
 
 shown_numbers : (first : ℤ) (vs : List Version) → map version_shown (number_from first vs) ≡ map stored vs
 shown_numbers first [] = refl

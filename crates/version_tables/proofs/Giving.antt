@@ -138,7 +138,7 @@ module _ {S : Type 0} (g : Ghosts S) (table : ℕ) (selection : Selection) (firs
     left_so (Ok x) kept = tt
     left_so (Err e) kept = record { clean = λ clean. was.left.clean (still_clean clean); keeps = λ clean. keeps e (kept clean) clean; mode = mode was.left.mode; faults = counted }
 
-    -- why there is an error, of the time since the query began
+    -- the reason of an error, since the query began
     since : (e : Error) → IsUnchanged (state g first) (state g before) → HasReason (state g before) (state g now) e → HasReason (state g first) (state g now) e
     since e so_far why on = elim (why so_far.0.is_open) [
       | inl memory ↦ inl memory

@@ -86,7 +86,7 @@ with_moments-stored : (v : Version) → HasSeconds v → with_moments (stored v)
 with_moments-stored v is =
     rw (scaled v.from is.0, ended_is v.to is.1, cast_int (pos v.table), cast_int v.start, cast_int v.end, cast_int (second_start v.from), cast_int (moved_end v.to)) refl
 
--- ---- all of them
+-- ---- all versions
 
 every : (vs : List Version) → filter (λ _. true) vs ≡ vs
 every [] = refl

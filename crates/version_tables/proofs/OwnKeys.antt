@@ -58,11 +58,11 @@ module _ {X : Type 0} (f : X → Version) (done batch more : List X) (m : Record
 pub healthy_less : (few many : ℕ) (db : Database) → few ≤ many → IsHealthy many db → IsHealthy few db
 healthy_less few many db less healthy = record { sound = healthy.sound; bare = healthy.bare; room = less_room few many (db.trees 2) less healthy.room }
 
--- a database has the same room if none of it is used
+-- a database that uses none of its room has the same room left
 pub healthy_still : (left : ℕ) (db : Database) → IsHealthy (0 + left) db → IsHealthy left db
 healthy_still left db = healthy_less left (0 + left) db (omega arith)
 
--- a database with room has it with none more
+-- a database with room has room for no more rows
 pub healthy_none : (left : ℕ) (db : Database) → IsHealthy left db → IsHealthy (0 + left) db
 healthy_none left db = healthy_less (0 + left) left db (omega arith)
 
@@ -84,7 +84,7 @@ key_parts k v same =
     is_equal Equal h = refl
     is_equal Greater h = absurd cc
 
--- a version of the key is of one key with the same versions
+-- versions with one key have one key with the same versions
 pub key_same : (k v w : Version) → same_key k v ≡ true → same_key k w ≡ same_key v w
 key_same k v w same = let p = key_parts k v same in rw (p.0, p.1, p.2, p.3) refl
 

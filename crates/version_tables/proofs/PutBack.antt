@@ -105,7 +105,7 @@ module _ (rows : List Row) (untied : HaveDistinctRowids rows) (keyed : AllByRecu
       IsPermutation-trans _ _ _ parts (subst (IsPermutation _) (sym (map-append rowid_shown news left)) (IsPermutation-append _ _ _ _ new stays)) in
       fresh_by news left (ascending_from_map (λ a b. same_rowid a b ≡ false) rowid_shown (news ++ left) (untied_along _ _ all apart))
 
-  -- a fact of the rowids is one of those that are put back
+  -- a property of all rowids holds of the rowids of the rows that are put back
   all_back : (Q : ℤ → Type 0) → AllByRecursion (λ r. Q (rid r)) rows → AllByRecursion (λ r. Q (rid r)) (put_all left news)
   all_back Q all =
       let each : AllByRecursion (λ r. Q (rid (again_of r))) (filter taken rows) =

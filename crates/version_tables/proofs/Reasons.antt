@@ -104,7 +104,7 @@ module _ (old new : State) where
   pub keeps_faults : {P : Trees → Type 0} → Survives old new P → KeepsFaults old new
   keeps_faults s = record { faults = s.counts; limit = s.limit }
 
--- the text is one statement over a schema
+-- the reasons why a text that is one statement over a schema fails
 module _ (text : List ℕ) (params : Row) (schema : Schema) (one : IsOne text (length params) (understood schema text)) (plain : IsPlain (understood schema text)) (s : State) (has : s.now.schema ≡ schema) where
   pub known : (r : Result Compiled CompileError) → understood s.now.schema text ≡ r → understood schema text ≡ r
   known r is = ap (λ schema. understood schema text) (sym has) ∙ is

@@ -37,7 +37,7 @@ CreatesOne text (Err e) = Unit {0}
 abbrev pub IsCreateText : List ℕ → Type 0
 IsCreateText text = CreatesOne text (first text)
 
--- if the text is understood, it makes a table
+-- the text makes a table, if it is understood
 abbrev pub Makes : List ℕ → Compiled → Type 0
 Makes text c = (c.command ≡ CreateTable) × (text_of text c ≡ text) × (c.returning ≡ None) × (c.formats ≡ [])
 

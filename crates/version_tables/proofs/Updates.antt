@@ -151,7 +151,7 @@ module _ (tests columns : List Term) (params : Row) (test : Row → Bool) (test_
       each_back [] = refl
       each_back (r ∷ rs) = let one = whole r in let more = each_back rs in cc
 
-  -- the rows that they show, by the versions of which P holds
+  -- the rows that show versions of which P holds
   module _ (picks : Version → Bool) (P : Version → Type 0) (f : Version → Version) (body : Row → Row) (test-stored : (v : Version) → test (stored v) ≡ picks v) (body_is : (r : Row) → version_shown (again (output (updating tests columns) (params ∷ r ∷ [])).1) ≡ body (version_shown r))
       (body-stored : (v : Version) → P v → body (stored v) ≡ stored (f v)) (are : AllByRecursion P m.versions) where
     abbrev is_spared : Row → Bool

@@ -24,7 +24,7 @@ abbrev pub AreShown : Records → ℕ → Selection → List Row → Type 0
 AreShown records table selection rows =
     (found : List Version) × (rows ≡ map shown found) × AreSelected records table selection found
 
--- the first of such rows
+-- the rows are the first that the query shows of a table
 abbrev pub AreFirst : Database → ℕ → Selection → List Row → Type 0
 AreFirst db table selection given =
     (records : Records) → Represents db records

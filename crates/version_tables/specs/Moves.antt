@@ -35,6 +35,6 @@ HaveSeconds records = AllByRecursion HasSeconds records.versions
 abbrev pub AreInSeconds : ℤ → Records → Type 0
 AreInSeconds clock records = (second_start records.clock ≡ clock) × HaveSeconds records
 
--- a database that represents records with such moments
+-- a database that represents records whose moments are in seconds
 abbrev pub IsInSeconds : Database → Type 0
 IsInSeconds db = (records : Records) × HaveSeconds records × Represents db records

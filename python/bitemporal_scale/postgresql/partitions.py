@@ -4,7 +4,7 @@ Each table is on every node as a whole, or in parts: then a row is on the node t
 distribution choose, by one function of their values for all tables. A query splits if the
 answers of the nodes, each over its own rows, are together the answer:
 
-- A SELECT of one table in parts splits. One of several does where equalities that must hold tie
+- A SELECT of one table in parts splits. One of several does if equalities that must hold tie
   their columns of distribution, so that rows that meet are on one node. Tables that are whole
   don't matter.
 - UNION splits if both sides do. EXCEPT and INTERSECT do if both sides do and have the

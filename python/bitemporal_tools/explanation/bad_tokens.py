@@ -112,7 +112,7 @@ def not_utf8(path: str, script: bytes, refused: Refused) -> str:
 
 
 def first_place(text: str, offset: int) -> int:
-    """Where what is wrong begins: before the bad token, where it is due to an apostrophe."""
+    """Where what is wrong begins: before the bad token, if it is due to an apostrophe."""
     if text[offset] != "'":
         return offset
     torn = torn_text(text)

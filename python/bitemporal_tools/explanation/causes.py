@@ -1,4 +1,4 @@
-"""Of each number that a statement can get what is to do, and the cause where no place says it."""
+"""Of each number that a statement can get what is to do, and the cause if no place says it."""
 from collections.abc import Mapping
 from typing import Optional
 

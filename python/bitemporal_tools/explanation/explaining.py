@@ -109,9 +109,9 @@ def made_table(statement: Statement) -> Optional[str]:
 
 class Explanation:
     """What is said of a script, given as bytes, and of its report: `texts` of what is refused, and
-    `notes` on statements that are right. `statements` are the script's, none if it is
-    refused as a whole; `records` and `refusals` are the report's. The script was run over
-    the tables of a catalog. `NotOfScript` if the report isn't the script's."""
+    `notes` on statements that are right. `statements` are those of the script, none if it is
+    refused as a whole; `records` and `refusals` are those of the report. The script was run over
+    the tables of a catalog. `NotOfScript` if the report isn't that of the script."""
 
     def __init__(self, path: str, script: bytes, report: str, catalog: Catalog) -> None:
         self.statements: list[Statement] = []

@@ -30,7 +30,7 @@ IN_CHANGES = {'FROM', 'SET', 'WHERE', 'FOR', 'PORTION', 'OF', 'TO', 'DATE'}
 
 class Edit(NamedTuple):
     """What is put in the place of the tokens from `start` on and before `end`, and the sentence;
-    where `put` is None nothing is tried. If no slip names the edit, it has to reach as many
+    if `put` is None nothing is tried. If no slip names the edit, it has to reach as many
     tokens more."""
     start: int
     end: int

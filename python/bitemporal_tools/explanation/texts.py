@@ -24,7 +24,7 @@ def wrapped(lines: Iterable[str]) -> list[str]:
 
 
 def joined(tokens: list[Token]) -> str:
-    """Tokens in one line: with a space where something was between them."""
+    """Tokens in one line: with a space if something was between them."""
     line, end = '', None
     for token in tokens:
         line += token.text if token.offset == end or not line else ' ' + token.text

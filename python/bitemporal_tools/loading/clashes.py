@@ -68,7 +68,7 @@ def grouped(rows: FactColumns, names: Iterable[str]) -> GroupedRows:
 def handovers_told(first: Callable[[Optional[int]], FactColumns],
                    wanted: argparse.Namespace) -> Iterator[str]:
     """Sentences on rows that follow each other within a group of columns, whatever the key: if
-    they are a day apart, and where they overlap. `first` gives so many of the rows, or all."""
+    they are a day apart, and if they overlap. `first` gives so many of the rows, or all."""
     rows = first(MOST_SAMPLED)
     sample = grouped(rows, [str(name) for name in rows.table.value_names])
     group = sample.best(rows.table.key)

@@ -83,7 +83,7 @@ def overlaps(facts: Iterable[Fact]) -> Iterator[tuple[Fact, Fact]]:
 
 def override(facts: list[Fact], new: Fact, is_kept: bool = True) -> tuple[list[Fact], list[Fact]]:
     """Takes the days of a new fact from facts that are sorted and apart, and adds it if it is to be
-    stored. Gives the facts that are removed, and those in their place."""
+    kept. Gives the facts that go, and those in their place."""
     if not facts or facts[-1].end <= new.start:
         facts += [new] * is_kept
         return [], [new] * is_kept

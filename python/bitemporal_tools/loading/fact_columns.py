@@ -20,7 +20,7 @@ DaysOfKey = tuple[Any, Any, Any]
 
 
 class FactColumns(NamedTuple):
-    """The fields of facts. `cells` has each value column's of the table by its name, and
+    """The fields of facts. `cells` has those of each value column of the table by its name, and
     `written` the texts of columns of dates that are as literals have them."""
     table: Table
     lines: Sequence[int]
@@ -41,7 +41,7 @@ class FactColumns(NamedTuple):
         return columns[0] if len(columns) == 1 else list(zip(*columns))
 
     def facts(self, records: Iterator[tuple[str, ...]]) -> list[Fact]:
-        """The facts, each a state of one of the records."""
+        """The facts, each a state of one of these records."""
         rest = [self.cells[name] for name in self.others]
         return list(map(fact_of, zip(
             self.lines, self.moments, zip(*(self.cells[name] for name in self.table.key)),

@@ -257,7 +257,7 @@ class Mapping:
         return list(map(found.__getitem__, texts))
 
     def values(self, column: Column, removed: Iterable[int]) -> Sequence[Optional[Value]]:
-        """The values of a column of the table. A line that takes days away needs the key's
+        """The values of a column of the table. A line that takes days away needs those of the key
         alone."""
         scale, decimal = self.scales.get(column.name, 0), self.options.decimal
         place = self.places[column.name]

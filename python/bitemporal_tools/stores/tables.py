@@ -33,7 +33,7 @@ class Column:
 
 @dataclasses.dataclass(frozen=True)
 class Reference:
-    """The columns of a table, and in the same order the parent's to which they refer."""
+    """The columns of a table, and in the same order those of its parent to which they refer."""
     parent: str
     columns: tuple[str, ...]
     parent_columns: tuple[str, ...]

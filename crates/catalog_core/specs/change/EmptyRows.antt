@@ -9,7 +9,7 @@ use Rattle.catalog_core.specs.declared.change.InsertedRow.{InsertedRow}
 abbrev pub is_empty_row : InsertedRow → Bool
 is_empty_row given = int_le given.end given.start
 
--- the change gives such a row
+-- the change gives a row whose period has no day
 abbrev pub has_empty_row : Action → Bool
 has_empty_row (Insert given) = list_any is_empty_row given
 has_empty_row (Update portion assignments condition) = false

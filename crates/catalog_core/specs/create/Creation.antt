@@ -146,7 +146,7 @@ is_no_value_column c name =
 unfoldable pub some_no_value : CreateTable → List Name → Bool
 some_no_value c names = list_any (λ name. is_no_value_column c name) names
 
--- 27: a key or a reference has such a name among its own columns
+-- 27: a key or a reference has a period or system column among its own columns
 unfoldable pub keys_period_column : CreateTable → Bool
 keys_period_column c =
     list_any (λ (x : KeyElement). some_no_value c x.columns) c.keys
@@ -188,7 +188,7 @@ is_bad_type (Varchar n) generated = generated || nat_lt n 1 || nat_lt most_code_
 is_bad_type (Timestamp None) generated = not generated
 is_bad_type (Timestamp (Some p)) generated = not generated || nat_lt greatest_precision p
 
--- a column has such a type
+-- a column has a bad type
 unfoldable pub has_bad_column : CreateTable → Bool
 has_bad_column c =
     list_any (λ (x : ColumnElement). is_bad_type x.kind (is_some x.generated)) c.columns
@@ -260,7 +260,7 @@ unfoldable pub have_other_kinds : CreateTable → TableDef → List Name → Lis
 have_other_kinds c t own others =
     list_any (λ (p : Name × Name). differ (own_kind c p.0) (def_kind t p.1)) (zip own others)
 
--- a reference has such columns
+-- a reference has columns whose kinds differ
 unfoldable pub names_other_kind : List TableDef → CreateTable → ReferenceElement → Bool
 names_other_kind catalog c x =
     passes (λ (t : TableDef). have_other_kinds c t x.columns x.parent_columns) (parent_of catalog x)

@@ -56,7 +56,7 @@ pub record Confirms (history : History) (query : Query) (answer : Answer) (verdi
   pub over : IsVerdictOver query tables answer verdict
   pub agrees : IsAgreement verdict
 
--- the audit of the answer to a query: such a verdict, or out of memory
+-- the audit of the answer to a query: a verdict that confirms it, or out of memory
 abbrev pub IsAuditOf : History → Query → Answer → Result Verdict Refusal → Type 0
 IsAuditOf history query answer (Ok verdict) = Confirms history query answer verdict
 IsAuditOf history query answer (Err refusal) = refusal ≡ Memory

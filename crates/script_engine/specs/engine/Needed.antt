@@ -68,7 +68,7 @@ IsNeededBy history (both operator left right) lists =
     (first : List (List PeriodRow)) × (second : List (List PeriodRow))
     × (lists ≡ first ++ second) × IsNeededBy history left first × IsNeededBy history right second
 
--- the new lists are the old ones, followed by such lists
+-- the new lists are the old ones, followed by lists of needed rows
 abbrev pub AddNeeded
     : (List (List PeriodRow) → Type 0) → List (List PeriodRow) → List (List PeriodRow) → Type 0
 AddNeeded AreNeeded old new =

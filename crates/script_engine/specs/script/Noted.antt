@@ -44,8 +44,8 @@ Forgets history s count =
 
 -- ---- runs
 
--- the run of a piece with this record, by the step of the record without its number, and by
--- the result that it has
+-- the run of a piece, recorded with a number: the record without the number makes the step, and
+-- has the result
 module _ {K : Type 0} (IsStep : History → List Lexeme → K → History → Type 0)
     (result_of : K → Result Outcome Refusal) where
   pub record NotedStep (old : History) (piece : List Lexeme) (noted : Noted K) (new : History)

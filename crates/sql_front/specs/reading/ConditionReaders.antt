@@ -75,11 +75,11 @@ inner_read p (suc n) ts =
 unfoldable pub test_read : {T : Type 0} → Reader T → ℕ → Reader (Condition T)
 test_read p n = test_with p (inner_read p n)
 
--- a factor over such tests
+-- a factor over tests whose parentheses nest at most n deep
 unfoldable pub factor_read : {T : Type 0} → Reader T → ℕ → Reader (Condition T)
 factor_read p n = factor_with (test_read p n)
 
--- a conjunction of such factors
+-- a conjunction of factors, each perhaps after NOT
 unfoldable pub conjunction_read : {T : Type 0} → Reader T → ℕ → Reader (Condition T)
 conjunction_read p n = conjunction_with (factor_read p n)
 

@@ -32,7 +32,7 @@ moment_of_token token = moment_of_text (between_quotes token)
 unfoldable pub clock_of_token : List ℕ → Option ℤ
 clock_of_token token = moment_of_token token >>= λ m. cond (int_lt m forever) (Some m) None
 
--- the value, or this one
+-- the value of an option, or else the given one
 abbrev pub or_else : Option ℤ → ℤ → ℤ
 or_else (Some n) other = n
 or_else None other = other

@@ -147,11 +147,11 @@ inner_query_read (suc n) ts =
 unfoldable pub primary_read : ℕ → Reader Query
 primary_read n = primary_with (select_read n) (inner_query_read n)
 
--- INTERSECT with such a primary
+-- INTERSECT with a primary whose parentheses nest at most n deep
 unfoldable pub intersection_read : ℕ → Reader (SetOperator × Query)
 intersection_read n = intersection_with (primary_read n)
 
--- any number of them
+-- any number of intersections
 unfoldable pub intersections_read : ℕ → Reader (List (SetOperator × Query))
 intersections_read n = intersections_with (intersection_read n)
 
@@ -159,7 +159,7 @@ intersections_read n = intersections_with (intersection_read n)
 unfoldable pub term_read : ℕ → Reader Query
 term_read n = term_with (primary_read n) (intersections_read n)
 
--- UNION or EXCEPT with such a term
+-- UNION or EXCEPT with a term whose parentheses nest at most n deep
 unfoldable pub step_read : ℕ → Reader (SetOperator × Query)
 step_read n = step_with (term_read n)
 

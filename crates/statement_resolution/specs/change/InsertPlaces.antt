@@ -37,7 +37,7 @@ unfoldable pub gives_faulty_value_at : ValueFault → List Column → List ℕ �
 gives_faulty_value_at way columns places row =
     list_any (λ (given : ℕ × Value). is_faulty_at way columns given) (zip places row)
 
--- some row gives such a value
+-- some row gives a wrong value
 unfoldable pub has_faulty_value_at : ValueFault → List Column → List ℕ → List (List Value) → Bool
 has_faulty_value_at way columns places rows =
     list_any (λ (row : List Value). gives_faulty_value_at way columns places row) rows
@@ -47,7 +47,7 @@ unfoldable pub takes_text : List Column → ℕ → Bool
 takes_text columns place =
     passes (λ (x : Column). same_kind (kind_of_column x.kind) Text) (slice_get columns place)
 
--- values are given for such a column
+-- values are given for a column that takes texts
 unfoldable pub gives_text : List Column → List ℕ → Bool
 gives_text columns places = list_any (λ (place : ℕ). takes_text columns place) places
 

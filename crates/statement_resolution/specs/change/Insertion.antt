@@ -73,7 +73,7 @@ is_system_name t name =
 unfoldable pub some_system_name : TableDef → List Name → Bool
 some_system_name t names = list_any (λ name. is_system_name t name) names
 
--- 27: the list has such a name
+-- 27: the list has the name of a system column
 unfoldable pub lists_system : TableDef → InsertRows → Bool
 lists_system t i = passes (some_system_name t) i.columns
 
@@ -116,7 +116,7 @@ unfoldable pub gives_faulty_value : ValueFault → TableDef → Option (List Nam
 gives_faulty_value way t list row =
     list_any (λ (given : Name × Value). is_faulty way t given) (given_values t list row)
 
--- 30 and 31: some row gives such a value
+-- 30 and 31: some row gives a wrong value
 unfoldable pub has_faulty_value : ValueFault → TableDef → InsertRows → Bool
 has_faulty_value way t i =
     list_any (λ (row : List Value). gives_faulty_value way t i.columns row) i.rows
@@ -137,12 +137,12 @@ unfoldable pub is_no_period : Option Value → Option Value → Bool
 is_no_period (Some (Date start)) (Some (Date end)) = int_le end start
 is_no_period _ _ = false
 
--- the row gives such dates for the start and the end of its period
+-- the row gives dates without a day between them for the start and the end of its period
 unfoldable pub gives_no_period : TableDef → Option (List Name) → List Value → Bool
 gives_no_period t list row =
     is_no_period (value_for t list row t.period.start) (value_for t list row t.period.end)
 
--- 41: some row gives such dates
+-- 41: some row gives a period without a day
 unfoldable pub has_no_period : TableDef → InsertRows → Bool
 has_no_period t i = list_any (λ (row : List Value). gives_no_period t i.columns row) i.rows
 

@@ -71,7 +71,7 @@ delete_faults t d =
     ∷ (EmptyPeriod, is_flawed_delete Empty d t)
     ∷ []
 
--- all faults of an UPDATE at once
+-- all of them at once
 abbrev pub judged_update : TableDef → Update → Faults
 judged_update t u =
     record (faults_of (λ flaw. is_flawed_update flaw u t)) { twice = sets_twice u.assignments }

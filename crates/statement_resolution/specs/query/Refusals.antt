@@ -17,7 +17,7 @@ is_too_long select =
     nat_lt most_select_tables (length (tables_of select))
     || nat_lt most_items (length select.items)
 
--- 21: more than 16 set operators, or such a select
+-- 21: more than 16 set operators, or a select that is above a limit
 abbrev pub is_above_limit : Query → Bool
 is_above_limit query =
     nat_lt most_operators (operator_count query) || list_any is_too_long (selects_of query)

@@ -1,4 +1,4 @@
--- A key or a reference names a column that is no value column if one of the statement's columns is such and is keyed.
+-- A key or a reference names a column that is no value column exactly if such a column of the statement is keyed.
 use Rattle.std.proofs.Common.{◌≡◌, ◌∷◌, ◌&&◌, ◌||◌, ◌∙◌, Bool, true, false, List, [], bytes_eq, refl, sym, ap}
 use Rattle.std.specs.List.{list_any}
 use Rattle.std.proofs.lemmas.Bool.{and_parts, false≢true, or_parts}
@@ -55,7 +55,7 @@ list_found names test other (x ∷ ks) some none =
           record { name = more.name; passes = more.passes; fails = more.fails; there = rw more.there (or_right (list_any (bytes_eq more.name) (names x))) })
     ]) refl some
 
--- a name that passes passes for the lists that have it
+-- a name that passes a test is in a list that passes it
 list_passes : {K : Type 0} (names : K → List Name) (test : Name → Bool) (name : Name) (ks : List K) → test name ≡ true → list_any (λ k. list_any (bytes_eq name) (names k)) ks ≡ true
     → list_any (λ k. list_any test (names k)) ks ≡ true
 list_passes {K} names test name ks passing some =
@@ -68,7 +68,7 @@ key_names x = x.columns
 abbrev reference_names : ReferenceElement → List Name
 reference_names x = x.columns
 
--- a column that a name matches passes what each of this name passes
+-- some column passes a test if a name matches a column and each column of that name passes it
 column_found : (c : CreateTable) (name : Name) (test : ColumnElement → Bool) → is_matching Zero (own_matches c name) ≡ false
     → ((x : ColumnElement) → name ≡ x.name → test x ≡ true) → list_any test c.columns ≡ true
 unfolding matches_among is_matching
@@ -81,7 +81,7 @@ both_ways true b there back = sym (there refl)
 both_ways false true there back = back refl
 both_ways false false there back = refl
 
--- the name that was found, of the keys or of the references, is a column's
+-- a name of the key or of a reference that is no value column's is a column's
 name_keyed : (c : CreateTable) (name : Name) → is_keyed c name ≡ true → is_no_value_column c name ≡ true → is_matching Zero (own_matches c name) ≡ false → some_keyed_non_value_column c ≡ true
 unfolding some_keyed_non_value_column
 name_keyed c name there other matching =

@@ -45,7 +45,7 @@ abbrev pub spelled_column : Column → ColumnElement
 spelled_column x =
     record { name = x.name; kind = spelled_type x.kind; generated = spelled_side x.kind }
 
--- the name of an element that may not be there, or another name
+-- the name of an element that may be missing, or another name
 abbrev pub name_or : {X : Type 0} → (X → Name) → Name → Option X → Name
 name_or named other None = other
 name_or named other (Some x) = named x
@@ -109,7 +109,7 @@ abbrev pub spelled_key : TableDef → List ColumnElement → KeyElement
 spelled_key d columns =
     record { columns = map (own_name d columns) d.key; period = d.period.name }
 
--- the whole, by the columns as they are declared
+-- a CREATE for a definition, by its columns as they are declared
 abbrev pub create_with : List TableDef → TableDef → List ColumnElement → CreateTable
 create_with tables d columns =
     record {
@@ -121,6 +121,6 @@ create_with tables d columns =
       references = map (spelled_reference tables d columns) d.references;
     }
 
--- the whole: no other CREATE that is accepted gives the definition
+-- a CREATE for a definition: no other CREATE that is accepted gives it
 abbrev pub create_of : List TableDef → TableDef → CreateTable
 create_of tables d = create_with tables d (map spelled_column d.columns)

@@ -35,7 +35,7 @@ emp =
       sound = refl;
     }
 
--- the CREATE that spells it over DEP
+-- the CREATE that spells EMP over DEP
 abbrev create : CreateTable
 create = create_of (dep ∷ []) emp
 

@@ -40,7 +40,7 @@ first_past place bound all xs ys is past e =
     let h = past parts.0 in
     omega (arith, h, ap length is, length-append xs ys)
 
--- the second part moves past it
+-- the second part moves past the bound
 pub second_past
     : (place next bound : ℕ) (all xs ys : List QueryReference) → all ≡ xs ++ ys
     → place + length xs ≡ next → (are_in_place next ys ≡ true → bound < next + length ys)

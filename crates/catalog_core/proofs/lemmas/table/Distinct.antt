@@ -57,7 +57,7 @@ or_false : (b : Bool) → (b || false) ≡ b
 or_false true = refl
 or_false false = refl
 
--- a test of the one element that passes another
+-- a test of the only element that passes another test
 pub only_one : {X : Type 0} (p q : X → Bool) (xs : List X) (i : ℕ) (d : X) → i < length xs → p (get_or xs i d) ≡ true → length (filter p xs) ≤ 1
     → list_any (λ y. p y && q y) xs ≡ q (get_or xs i d)
 only_one p q [] i d here passing few = absurd (omega (arith, here))

@@ -11,7 +11,7 @@ use Rattle.period_keys.proofs.fixed_keys.literal_of.Goals as goal
 pub returns-in-Some : goal.returns-in-Some
 returns-in-Some c = inl c.in-Some.ensures
 
--- the sides in one order give none, and the other order is asked
+-- the sides in one order give no literal, and the other order is tried
 beside : (comparison : Comparison) (test : CompareValues) (position : ℕ) (found : Option (Bor Value))
     → ((value : Value) → (test.comparison ≡ comparison) × (test.left ≡ Position position) × (test.right ≡ Literal value) → ⊥)
     → MatchOption found ((value : Value) → (test.comparison ≡ turned comparison) × (test.right ≡ Position position) × (test.left ≡ Literal value) → ⊥)

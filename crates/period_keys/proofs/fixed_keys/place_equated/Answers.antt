@@ -11,7 +11,7 @@ use Rattle.period_keys.proofs.fixed_keys.place_equated.Goals as goal
 pub returns-in-Some : goal.returns-in-Some
 returns-in-Some c = (c.in-Test.test, c.in-Test.is, c.in-Equal.is, inl c.in-Some.ensures)
 
--- the sides in one order give none, and the other order is asked
+-- the sides in one order give no place, and the other order is tried
 beside : (condition : code.Tree CompareValues) (c : CompareValues) (place : ℕ) (found : Option ℕ) → condition ≡ code.Test c → c.comparison ≡ Equal
     → ((other : ℕ) → (c.left ≡ Position place) × (c.right ≡ Position other) → ⊥)
     → MatchOption found ((other : ℕ) → (c.right ≡ Position place) × (c.left ≡ Position other) → ⊥) (λ other. (c.right ≡ Position place) × (c.left ≡ Position other))

@@ -20,7 +20,7 @@ returns-in-Some-end_near c = (Any-append (Ends c.args.day c.in-Some-end_near.end
 pub returns-in-Some-end_of_any : goal.returns-in-Some-end_of_any
 returns-in-Some-end_of_any c = (Any-append (Ends c.args.day c.in-Some-end_of_any.end) c.args.first.now c.args.second.now).1 (inl c.in-Some-end_of_any.ensures)
 
--- if the first list has none, one is of the second
+-- if no period of the first list holds the day, a period of the second may
 of_second : (first second : List Period) (day : ℤ) (found : Option ℤ) → (IsHeld first day → ⊥) → MatchOption found (IsHeld second day → ⊥) (λ end. Any (Ends day end) second)
     → MatchOption found (IsHeld (first ++ second) day → ⊥) (λ end. Any (Ends day end) (first ++ second))
 of_second first second day (Some end) none found = (Any-append (Ends day end) first second).1 (inr found)

@@ -25,7 +25,7 @@ of_added positions key v w row own moved x c =
       | inr new ↦ inr (own ∙ ap (version_key positions) (Contains-one row x new))
     ]
 
--- whether it was added or not
+-- the rows of the group, whether the row was added or not
 of_either : {X E : Type 0} (r : Result X E) (positions : List ℕ) (key : List Value) (v w : KeyRows) (row : VersionRow) → key ≡ version_key positions row
     → OnOk r (IsPermutation (rows_in w) (rows_in v ++ row ∷ [])) → OnErr r (rows_in w ≡ rows_in v)
     → (x : VersionRow) → Contains (rows_in w) x → Contains (rows_in v) x ⊎ (key ≡ version_key positions x)

@@ -14,7 +14,7 @@ use Rattle.period_keys.proofs.ReferenceFacts.{number_at}
 use Rattle.period_keys.proofs.StateFacts.{below_step, held_at, lawful_of_tables, parents_indexed, state_unlawful}
 use Rattle.period_keys.proofs.lawful_states.is_lawful.Goals as goal
 
--- the rows that were made of a table's hold it
+-- the rows that were made of a table's versions hold the table
 held_rows : (catalog : List TableDef) (state : State) (tables : List TableRows) (place : ℕ) (def : TableDef) (table : TableRows) (given made : List PeriodRow) (rows : List VersionRow)
     → HoldCurrent catalog state (map rows_by_key tables) → length tables ≡ length catalog → place < length catalog → table_of catalog (place + 1) ≡ Some def → table ≡ get_or tables place table
     → given ≡ made → made ≡ map row_of rows → rows ≡ table.rows → HoldsTable given state (place + 1)

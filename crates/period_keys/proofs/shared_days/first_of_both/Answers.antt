@@ -1,7 +1,7 @@
 use Rattle.period_core.proofs.PeriodEnds.{day_in, days_from, days_to, first_in}
 use Rattle.period_keys.proofs.shared_days.first_of_both.Goals as goal
 
--- the days of what both share are the days of both
+-- the days that both periods share are the days of their overlap
 pub returns : goal.returns
 returns c =
     let one = c.args.one.now in

@@ -193,7 +193,7 @@ date_parts t dated =
     let each = and_parts (is_date_column t t.period.start) (is_date_column t t.period.end) both.1 in
     record { start = each.0; end = each.1 }
 
--- the conditions of all rows, of one row
+-- the conditions of all rows hold of one row
 pub record RowParts (t : TableDef) (insert : InsertRows) (row : List Value) : Type 0 where
   pub names : passes (omits_column t) insert.columns ≡ false
   pub count : length row ≡ length (given_names t insert.columns)

@@ -105,7 +105,7 @@ among_end f xs whole i done same = ap (faults_among f) (take_all i xs done ∙ s
 
 -- ---- one of the faults
 
--- a part of the faults that is reported of each
+-- a fault that is reported of each element, as a part of the faults
 pub record IsPart (part : Faults → Bool) : Type 0 where
   pub none : part no_faults ≡ false
   pub both : (f g : Faults) → part (either f g) ≡ (part f || part g)

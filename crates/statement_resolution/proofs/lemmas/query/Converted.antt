@@ -1,4 +1,4 @@
--- A select by positions: in loops over joins and chains, and if no name is wrong.
+-- A select by positions: its members so far in loops over joins and chains, and the whole if no name is wrong.
 use Rattle.std.proofs.Common.{◌≡◌, ◌<◌, ◌+◌, ◌++◌, ◌∷◌, ◌||◌, ◌∙◌, ℕ, Bool, false, List, [], Option, None, Some, append_assoc, flat_map, get_or, length, map, refl, sym, take, ap}
 use Rattle.std.specs.List.{list_any, position}
 use Rattle.std.specs.Option.{option_map}

@@ -28,7 +28,7 @@ module _ {T : Type 0} where
       ap members (or_view first others)
       ∙ ap (λ (cs : List (code.Tree T)). members (any (more (plain_condition first.value) (conditions_of (map plain_condition cs))))) alone
 
-  -- any other condition is its own
+  -- a condition that is no AND is its own only member
   or_its_own : (first : Condition T) (parts : List (code.Tree T)) → ¬ (length parts ≡ 0)
       → members (any (more first (conditions_of (map plain_condition parts)))) ≡ any (more first (conditions_of (map plain_condition parts))) ∷ []
   or_its_own first [] more_than_one = absurd (more_than_one refl)

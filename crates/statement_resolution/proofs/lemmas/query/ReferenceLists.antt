@@ -89,7 +89,7 @@ counted rs name =
     count_map (bytes_eq name) known_name (map (λ (r : Borrowed). r.now) rs)
     ∙ count_map (λ (r : TableReference). bytes_eq name (known_name r)) (λ (r : Borrowed). r.now) rs
 
--- some name of them is known to another, by the references in hand
+-- some name of the references is known to another, by the references in hand
 pub twice_by : (rs : List Borrowed) → known_twice (map (λ (r : Borrowed). r.now) rs) ≡ list_any (known_to rs) rs
 unfolding repeats
 twice_by rs =

@@ -115,7 +115,7 @@ module _ (catalog : List TableDef) where
       ∙ sym (seen_append (front_tables chains i) (chain_tables (plain_chain c)))
       ∙ ap (seen_columns catalog) (sym (front_tables_more chains i c here item))
 
--- the columns after those that were there
+-- the columns after the earlier ones
 pub behind : (old whole seen : List SeenColumn) (start : ℕ) → start ≡ length old → whole ≡ old ++ seen → take (length whole - start) (drop start whole) ≡ seen
 behind old whole seen start at same =
     let rest : drop start whole ≡ seen = ap (λ n. drop n whole) at ∙ ap (drop (length old)) same ∙ drop-append_seam old seen in

@@ -8,7 +8,7 @@ use Rattle.catalog_core.proofs.lemmas.table.Positions.{none_passes}
 use Rattle.catalog_core.specs.table.Matches.{is_matching}
 use Rattle.catalog_core.specs.declared.table.match_counts.MatchCount.TheVariants.{Zero}
 
--- the elements that are left to be searched, after so many
+-- the place among the elements that are left to be searched
 abbrev pub place_from : {X : Type 0} → (X → Bool) → (X → Bool) → ℕ → List X → Option ℕ
 place_from p q n xs = option_map (λ k. n + k) (position p (filter q xs))
 

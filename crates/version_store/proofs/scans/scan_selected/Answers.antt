@@ -115,7 +115,7 @@ rows-preserved g c =
       visited = one_visited g.S.Store c.args.form g.V.RowVisitor.next c.args.table selection c.args.connection.now c.rows.rows.conn.now now.conn.now _ _ _ c.rows.invariant.visited c.in-Some.row.now _ gives some c.in_default-visit_row.ensures.visited;
     }
 
--- more rows than there can be
+-- the query gives more rows than there can be
 
 pub returns-clause-visited : goal.returns-clause-visited
 returns-clause-visited g c clean d has chooses sure =

@@ -167,7 +167,7 @@ returns-in-Err-accept-clause-bad g c = λ usable bad. absurd (elim c.in-Err-acce
 pub returns-in-Err-clause-why : goal.returns-in-Err-clause-why
 returns-in-Err-clause-why g c = λ usable good movable rowids. c.in-Err.ensures.why usable (other_points good) rowids
 
--- the contents read of it are good, and lawful
+-- the contents that are read of the store are good, and lawful
 pub returns-in-Err-load_lawful-clause-why : goal.returns-in-Err-load_lawful-clause-why
 returns-in-Err-load_lawful-clause-why g c = λ handed good movable rowids.
     let before = subst (IsUsable g.S.Store) c.refuse.ensures.same handed in

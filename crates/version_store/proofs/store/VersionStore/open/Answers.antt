@@ -66,7 +66,7 @@ returns-in-Err-inspect-clause-bad g c = λ usable bad. (
   λ good. c.in-Err-inspect.ensures.bad usable.0 usable.1 good.tables_there (c.from.ensures.1 bad) good,
 )
 
--- the clock that was found is one
+-- the number of a clock that was found is in the form's unit
 no_clock : {P : Type 0} (form : Form) (n : ℤ) → IsClock form n → ¬ IsNumberIn form n → P
 no_clock form n is none = absurd (none (is.0, let below = is.1 in omega (arith, ints, below)))
 
