@@ -1,5 +1,4 @@
 """Which texts are dates and moments, and which numbers fit into 64 bits with a sign."""
-import calendar
 import datetime
 import re
 from typing import Optional
@@ -30,6 +29,7 @@ def why_no_date(text: str) -> str:
     found = re.fullmatch('([0-9]{4})-([0-9]{1,2})-([0-9]{1,2})', text)
     year, month, day = map(int, found.groups()) if found else (0, 0, 0)
     if year and 1 <= month <= 12:
+        import calendar  # few runs of a tool come here
         days = calendar.monthrange(year, month)[1]
         if not 1 <= day <= days:
             return f"'{text}' is no date: month {month} of {year:04} has {days} days."
