@@ -106,7 +106,7 @@ def parts(elements):
 
 
 def leaves(part):
-    """What a statement holds that is no tuple, and the literals that are BadDates."""
+    """The parts of a statement that are no tuples, and the literals that are BadDates."""
     if isinstance(part, tuple) and not isinstance(part, BadDate):
         for inner in part:
             yield from leaves(inner)
@@ -119,7 +119,7 @@ def are_no_period(dates):
 
 
 def order(value):
-    """What orders a value among those of its type: texts go by their bytes."""
+    """The place of a value among those of its type: texts go by their bytes."""
     return value.encode() if isinstance(value, str) else value
 
 
@@ -128,7 +128,7 @@ def order(value):
 
 
 def on(days, day):
-    """What is on a day."""
+    """The content of a day."""
     return [there for first, there in days if first <= day][-1]
 
 
@@ -252,7 +252,7 @@ class Scope:
             yield 41
 
     def value(self, operand, rows):
-        """What a name or a literal is, if each table has one row."""
+        """The value of a name or a literal, if each table has one row."""
         if not isinstance(operand, Name):
             return operand
         [place] = self.found(operand)
@@ -380,7 +380,7 @@ class Model:
             yield 26
         if any(name in period_columns or sorts.get(name, (None, None))[1] for name in own_columns):
             yield 27
-        # That a key or a reference is over a wrong period has no line here: a name of no period is
+        # A key or a reference over a wrong period has no line here: a name of no period is
         # 24, and a table of two application-time periods is 28 already.
         if (any(len(group) != 1 for group in (application, system, keys))
                 or any([column.generated for column in columns].count(generated) != 1

@@ -1,4 +1,4 @@
-"""Where the program is.
+"""The place of the program.
 
 In the repository there are up to two builds of it, and a launcher that chooses one and makes it
 if there is none. Beside the installed tools only the launcher is there, and beside tools that

@@ -1,4 +1,4 @@
-"""Which sequenced queries can be answered node by node, if tables are kept in parts.
+"""Sequenced queries that can be answered node by node, if tables are kept in parts.
 
 Each table is on every node as a whole, or in parts: then a row is on the node that its columns of
 distribution choose, by one function of their values for all tables. A query splits if the
@@ -36,8 +36,8 @@ class Crossing(Exception):
 
 
 def verdict(query: Query, catalog: Catalog, columns: dict[str, list[str]]) -> str:
-    """How a query splits, if `columns` has the columns of distribution of each table in parts:
-    whole, disjoint or merge. A Crossing if it does not split."""
+    """The way in which a query splits, if `columns` has the columns of distribution of each table
+    in parts: whole, disjoint or merge. A Crossing if it does not split."""
     places = places_of(query, catalog, columns)
     if places is None:
         return WHOLE

@@ -20,16 +20,16 @@ MOST_ROUNDS, MOST_SHOWN = 16, 400
 FURTHER = 3  # how many tokens more a mend that no slip names has to reach
 LIKE = 0.7  # how alike a word and a misspelled one are
 KINDS = {'number': '0', 'text': "'"}
-# What nobody leaves out by mistake, and names and values, which have a guess of their own.
+# Words that nobody leaves out by mistake, and names and values, which have a guess of their own.
 NO_GUESS = {A_NAME, A_NUMBER, A_TEXT, THE_END, 'NOT', '+', '-', '.', '<', '<=', '<>', '>', '>=',
             'CONTAINS', 'EQUALS', 'IMMEDIATELY', 'OVERLAPS', 'PRECEDES', 'SUCCEEDS'}
 CHANGES = ('UPDATE', 'DELETE')
-# What a guess may put into a change: it takes no condition away, and adds no row.
+# Words that a guess may put into a change: it takes no condition away, and adds no row.
 IN_CHANGES = {'FROM', 'SET', 'WHERE', 'FOR', 'PORTION', 'OF', 'TO', 'DATE'}
 
 
 class Edit(NamedTuple):
-    """What is put in the place of the tokens from `start` on and before `end`, and the sentence;
+    """The words in the place of the tokens from `start` on and before `end`, and the sentence;
     where `put` is None nothing is tried. If no slip names the edit, it has to reach as many
     tokens more."""
     start: int
@@ -59,7 +59,7 @@ class Mending:
         return self.parsed.stop or 0
 
     def where(self) -> Advice:
-        """What is expected at the stop, and what is there."""
+        """The words that are expected at the stop, and those that are there."""
         before = f'after {shown(self.tokens[self.stop - 1].text)} ' if self.stop else ''
         found = shown(self.tokens[self.stop].text) if self.stop < len(self.tokens) else \
             'the end of the statement'
@@ -68,7 +68,7 @@ class Mending:
                       f'{before}expected {alternatives(expected)}, found {found}')
 
     def advice(self) -> Iterator[Advice]:
-        """What to do at each place in turn; last, if no mend is known, what is wrong there."""
+        """Advice on each place in turn; last, if no mend is known, what is wrong there."""
         while self.parsed.stop is not None:
             edit = self.apostrophe() or self.slip() or self.guess()
             if edit is None or self.rounds == MOST_ROUNDS:
@@ -95,7 +95,8 @@ class Mending:
         return tokens, offsets
 
     def reached(self, edit: Edit) -> tuple[bool, int]:
-        """How much is right with an edit: whether all of it, and how many tokens then are left."""
+        """The part that is right with an edit: whether all of it, and how many tokens then are
+        left."""
         if edit.put == CUT:
             found = parsed(self.tokens[:edit.start])
             is_right = found.tree is not None
@@ -119,7 +120,7 @@ class Mending:
     # Slips.
 
     def apostrophe(self) -> Optional[Edit]:
-        """Where a text ends in the middle of a word."""
+        """An end of a text in the middle of a word."""
         if 0 < self.stop < len(self.tokens):
             before, token = self.tokens[self.stop - 1:self.stop + 1]
             if before.kind == 'text' and token.kind in ('word', 'number') and \

@@ -60,7 +60,7 @@ fact_of = cast(Callable[[object], Fact], functools.partial(tuple.__new__, Fact))
 
 
 def with_days(fact: Fact, start: datetime.date, end: datetime.date) -> Fact:
-    """What a fact says, of other days."""
+    """A fact that says as much of other days."""
     line, moment, key, values, _, _, record, is_end = fact
     return fact_of((line, moment, key, values, start, end, record, is_end))
 

@@ -119,5 +119,5 @@ def in_columns(table: Table, facts: Sequence[Fact]) -> FactColumns:
 
 
 def column(rows: Sequence[Sequence[Any]], place: int) -> list[Any]:
-    """What each row has at a place."""
+    """The part of each row at a place."""
     return list(map(operator.itemgetter(place), rows))

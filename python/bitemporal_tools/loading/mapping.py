@@ -183,7 +183,8 @@ class Mapping:
     # Records as facts.
 
     def columns(self) -> FactColumns:
-        """What all records say, column by column. What is bad is reported to the file, and None."""
+        """The sayings of all records, column by column. A bad cell is reported to the file, and
+        None."""
         values = {str(column.name): self.values(column, self.removed_lines)
                   for column in self.table.values}
         starts, ends = self.starts(), self.ends()

@@ -89,7 +89,7 @@ class RowWriter:
         """The rows of each INSERT, as many as a statement may have."""
         texts, signs = self.texts_of(columns)
         head, *between, tail = self.form.split('%s')
-        # What stands behind each text of a row, and in place of the texts as much again.
+        # The signs behind each text of a row, each after an empty place for that text.
         behind = [sign for after in [*between, f'{tail}{BETWEEN_ROWS}{head}']
                   for sign in ('', after)]
         for first, end in self.runs(texts, signs):
@@ -116,7 +116,7 @@ class StatementWriter:
               for value in (*values, *change.key)])
 
     def form(self, kind: str, places: tuple[int, ...]) -> str:
-        """What changes of one kind have alike, with the forms of their values."""
+        """The text that changes of one kind have alike, with the forms of their values."""
         if (kind, places) not in self.forms:
             name, period = self.table.name, self.table.period.name
             forms = {column.name: f'{column.name} = {FORMS[column.kind][0]}'

@@ -61,7 +61,7 @@ def spelled(literal: Literal) -> str:
 
 
 def mend_of_type(kind: Optional[str], literal: Literal) -> str:
-    """How a literal might become one of another type."""
+    """A mend by which a literal might become one of another type."""
     if literal.kind == 'VARCHAR' and kind == 'DATE' and date_of(literal.value):
         return ' Write DATE before it.'
     if literal.kind == 'VARCHAR' and kind == 'INTEGER' and \
