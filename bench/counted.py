@@ -52,7 +52,8 @@ def counted_run(program, words, file, **streams):
 
 
 def instructions(folder, script):
-    """How many instructions the program needs for a script, in which no statement is refused."""
+    """The number of instructions that the program needs for a script, in which no statement is
+    refused."""
     file = folder / 'script.sql'
     file.write_text(script)
     ran, count = counted_run(PROGRAM, ['run', file], folder / 'counted', stdout=subprocess.PIPE)

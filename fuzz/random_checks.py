@@ -133,7 +133,7 @@ def parts_of(node):
 
 RULES = read_grammar(GRAMMAR)
 PARTS = {name: list(parts_of(tree)) for name, tree in RULES.items()}
-# What a careless reader might take for the rules, besides them.
+# Rules as a careless reader might take them, besides them.
 WRONG = read_grammar("""
 element   = name type NOT NULL GENERATED ALWAYS AS ROW ( START | END )
           | name type GENERATED ALWAYS AS ROW | name type NULL | PERIOD name '(' name ',' name ')'
@@ -272,7 +272,7 @@ def refusal(piece):
 
 
 def judge(script):
-    """What refuses the whole script: a number, and for 3 the offset; and the pieces' refusals."""
+    """The refusal of the whole script: a number, and for 3 the offset; and the pieces' refusals."""
     if len(script) > MOST_BYTES:
         return [2], []
     try:
@@ -287,7 +287,8 @@ def judge(script):
 
 
 def told(whole, pieces):
-    """What `check` gives after this judgement: the exit status, the report and standard error."""
+    """The outcome of `check` after this judgement: the exit status, the report and standard
+    error."""
     if whole:
         line = ["bitemporal:", whole[0], REFUSALS[whole[0]], *whole[1:]]
         return 2, b"", " ".join(map(str, line)).encode() + b"\n"
@@ -554,7 +555,7 @@ class Author:
 
 
 def run(program, script, path):
-    """What the program gives for the script, in the file at the path or on its input."""
+    """The program's outcome for the script, in the file at the path or on its input."""
     if path:
         path.write_bytes(script)
     words = [program, "check", *filter(None, [path])]

@@ -68,7 +68,7 @@ class Served:
         return 0
 
     def counts(self) -> 'tuple[int, int]':
-        """How many threads and descriptors the server has."""
+        """The numbers of threads and descriptors of the server."""
         folder = pathlib.Path(f'/proc/{self.process.pid}')
         return len(list((folder / 'task').iterdir())), len(list((folder / 'fd').iterdir()))
 
@@ -139,7 +139,8 @@ def wrong(served: Served, workers: 'list[Worker]') -> 'list[str]':
 
 
 def judged(served: Served, workers: 'list[Worker]') -> 'list[str]':
-    """What is wrong. A server that was still about to end, with its engine, is started again."""
+    """The faults that are found. A server that was still about to end, with its engine, is started
+    again."""
     try:
         return wrong(served, workers)
     except (*GONE, Refused):

@@ -1,5 +1,5 @@
 #!/usr/bin/env python3
-"""Runs random scripts and compares each report with a model's.
+"""Runs random scripts and compares each report with that of a model.
 
     fuzz/random_runs.py [--seed N] [--count N] [--forms WORDS] [--audit] [PROGRAM]
 
@@ -15,7 +15,7 @@ few names, values, days and moments, so that they clash. WORDS, with commas betw
     queries   sequenced queries with conditions, joins, windows, UNION, EXCEPT and INTERSECT
     keys      no other statements; but keys and references are checked
 
-Most statements are sound. The rest have one fault or several, so that it shows which refusal is
+Most statements are sound. The others have one fault or several, so that it shows which refusal is
 answered. The model is in random_runs_model.py.
 
 If the report or the exit status isn't the model's, or standard error isn't empty, the script is
@@ -61,7 +61,7 @@ LETTERS = ["'", '"', 'x', '\n', '\u00e9', '\u65e5', '\U0001f600']
 TABLES = ['T', 'U', 'V', 'W']
 NAMES = TABLES + ['A', 'B', 'C', 'D2', 'E', '_P', 'SS', 'VALID_TO']
 KINDS = ['INTEGER', 'VARCHAR', 'DATE', 'TIMESTAMP']
-# What a fault puts in the fields of statements, if that isn't a name.
+# Texts that a fault puts in the fields of statements, if that isn't a name.
 FIELDS = {'kind': KINDS, 'number': [None, 0, 1, 12, 13, 1000, 1001, GREATEST_NUMBER + 1],
           'generated': [None, 'START', 'END'], 'moment': [*MOMENTS, *BAD_MOMENTS, FOREVER],
           'until': [*MOMENTS, *BAD_MOMENTS, FOREVER], 'text': [date.text for date in BAD_DATES],
@@ -74,7 +74,8 @@ MOST = {Reference: MOST_REFERENCES, Chain: MOST_TABLES_OF_A_SELECT, Operand: MOS
 
 
 def weight(part):
-    """How readily a part is chosen for a fault: by what is in it, columns less than the rest."""
+    """The weight of a part that may be chosen for a fault: by what is in it, columns less than the
+    rest."""
     share = 3 if isinstance(part, (Period, Key, Reference)) else 1
     return share * (1 + sum(map(weight, part))) if isinstance(part, tuple) else 1
 
@@ -248,8 +249,8 @@ class Generator:
         return self.by_key(tables, condition) if self.at(0.3) else condition
 
     def by_key(self, tables, condition):
-        """That first columns of a table's key, mostly all, equal literals, and the next one is in
-        limits; and the condition."""
+        """A condition that first columns of a table's key, mostly all, equal literals, and the next
+        one is in limits; beside it the given one."""
         known, table = self.choice(tables)
         key = table.key if self.at(0.9) else table.key[1:]
         count = len(key) if self.at(0.5) else self.choice(range(len(key) + 1))
@@ -264,7 +265,7 @@ class Generator:
         return (Or if self.at(0.1) else And)(tuple(parts))
 
     def compared(self, known, table, column, sign, tables):
-        """That a column compares so with a literal, or the literal with it."""
+        """A condition that a column compares so with a literal, or the literal with it."""
         sides = [self.name(known, column, tables), self.value(table.columns[column])]
         if self.at(0.3):
             sides.reverse()
@@ -352,7 +353,7 @@ class Generator:
                 [table.columns[column].kind for _, table, column in columns])
 
     def columns(self, known, kinds):
-        """What is selected of tables: the name that each has, itself, and a column."""
+        """A choice of tables' columns: the name that each goes by, itself, and a column."""
         there = [(name, table, column) for name, table in known for column in table.values]
         if kinds is None:
             columns = self.some(there)[:4] if len(known) > 1 else self.some(there)

@@ -3,7 +3,7 @@
 It follows docs/PROFILE.md, rule by rule and without care for speed. It judges the statement that is
 generated, not its text: it has no parser.
 
-A table is held twice. Its states are held by moment and day: for each day the rows that hold on it,
+A table is kept twice. Its states are kept by moment and day: for each day the rows that hold on it,
 over pieces of time in which no day differs from the next. A change acts on each day by itself, and
 sequenced queries, keys and references are judged day by day. Its versions, rows with a period and
 with the moments from which and to which they are recorded, are what stored queries show.
@@ -13,7 +13,7 @@ import datetime
 
 # Statements. Their lists are tuples. A literal is an int, a str, a date, or a BadDate.
 
-# INTEGER, VARCHAR, DATE or TIMESTAMP; the n of VARCHAR(n), in which None is 0, or the p of
+# INTEGER, VARCHAR, DATE or TIMESTAMP; the n of VARCHAR(n), where None is 0, or the p of
 # TIMESTAMP(p) or None; START or END of GENERATED ALWAYS AS ROW, or None.
 Column = collections.namedtuple('Column', 'name kind number generated')
 Period = collections.namedtuple('Period', 'name start end')  # the name may be SYSTEM_TIME
@@ -57,7 +57,7 @@ REFUSALS = {
     27: 'PeriodColumn', 28: 'BadDefinition', 29: 'ColumnCount', 30: 'TypeMismatch',
     31: 'TextTooLong', 40: 'MomentBack', 41: 'EmptyPeriod', 42: 'KeyOverlap',
     43: 'PeriodReference', 62: 'Store'}
-# A moment is as reports print it: nineteen characters, and if its fraction of a second is
+# A moment is kept as reports print it: nineteen characters, and where its fraction of a second is
 # not zero, a point and six digits. So moments compare as their texts do.
 FOREVER = '9999-12-31 23:59:59.999999'
 # Moments in order, and texts of none. FOREVER is none of a clock, nor of AS OF.
@@ -106,7 +106,7 @@ def parts(elements):
 
 
 def leaves(part):
-    """What a statement holds that is no tuple, and the literals that are BadDates."""
+    """The parts of a statement that are no tuples, and the literals that are BadDates."""
     if isinstance(part, tuple) and not isinstance(part, BadDate):
         for inner in part:
             yield from leaves(inner)
@@ -119,7 +119,7 @@ def are_no_period(dates):
 
 
 def order(value):
-    """What orders a value among those of its type: texts by their bytes."""
+    """The place of a value among those of its type: texts go by their bytes."""
     return value.encode() if isinstance(value, str) else value
 
 
@@ -128,12 +128,12 @@ def order(value):
 
 
 def on(days, day):
-    """What is on a day."""
+    """The content of a day."""
     return [there for first, there in days if first <= day][-1]
 
 
 def together(lists):
-    """One list over all days from several, with a list of what each has."""
+    """One list over all days from several, with a list of what is there in each."""
     firsts = sorted({first for days in lists for first, _ in days} | {FIRST})
     return [(first, [on(days, first) for days in lists]) for first in firsts]
 
@@ -199,7 +199,7 @@ class Table:
 
 
 class Scope:
-    """The tables whose columns a name may match, each by the name that it has."""
+    """The tables whose columns a name may match, each by the name that it goes by."""
 
     def __init__(self, tables):
         self.tables = tables  # pairs of a name and a Table
@@ -252,7 +252,7 @@ class Scope:
             yield 41
 
     def value(self, operand, rows):
-        """What a name or a literal is, if each table has one row."""
+        """The value of a name or a literal, if each table has one row."""
         if not isinstance(operand, Name):
             return operand
         [place] = self.found(operand)
@@ -380,7 +380,7 @@ class Model:
             yield 26
         if any(name in period_columns or sorts.get(name, (None, None))[1] for name in own_columns):
             yield 27
-        # That a key or a reference is over a wrong period has no line here: a name of no period is
+        # A key or a reference over a wrong period has no line here: a name of no period is
         # 24, and a table of two application-time periods is 28 already.
         if (any(len(group) != 1 for group in (application, system, keys))
                 or any([column.generated for column in columns].count(generated) != 1

@@ -13,7 +13,7 @@ DEBIAN_PYTHON = '/usr/bin/python3'
 
 @dataclasses.dataclass(frozen=True)
 class Package:
-    """What a test may need, whether it is here, and the line that installs it on Debian."""
+    """A thing that a test may need, whether it is here, and the line that installs it on Debian."""
     name: str
     is_here: Callable[[], bool]
     install: str
@@ -96,7 +96,7 @@ PARTS = [
     # The launcher, and the quick build next to the proved one.
     Part('tests/builds stamps first', 300, **BUILDS),
     Part('tests/builds bugs', 250, **BUILDS),
-    # What is installed, and the packages.
+    # The installed program, and the packages.
     Part('tests/installed', 25, needs=(MANDOC, ZSH, DPKG, LINTIAN)),
     # Stores in files, and memory, disks and writers that fail.
     Part('tests/stores', 3),

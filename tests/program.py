@@ -1,4 +1,4 @@
-"""What the tests of the program share: a run of it, and how many tests passed."""
+"""Things that the tests of the program share: a run of it, and how many tests passed."""
 import os
 import pathlib
 import subprocess

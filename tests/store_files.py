@@ -21,7 +21,7 @@ Row = tuple[Any, ...]
 
 
 class Form(NamedTuple):
-    """Its number, how many moments a second has, and the number of the open end."""
+    """A form's number, the number of moments of a second, and the number of the open end."""
     number: int
     second: int
     forever: int
@@ -106,7 +106,7 @@ def change(file: File, sql: str) -> None:
 
 
 def read(file: File, *queries: str) -> list[list[Row]]:
-    """What sqlite3 reads in a file."""
+    """The rows that sqlite3 reads in a file."""
     connection = sqlite3.connect(file)
     answers = [connection.execute(query).fetchall() for query in queries]
     connection.close()

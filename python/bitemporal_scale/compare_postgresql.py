@@ -51,7 +51,7 @@ def ours(script: bytes) -> bytes:
 
 
 def theirs(script: bytes, connection: str) -> bytes:
-    """What PostgreSQL prints for the translated script."""
+    """The output of PostgreSQL for the translated script."""
     try:
         made = ''.join(translated(decoded(script), Options()))
     except Refused as refused:

@@ -1,4 +1,4 @@
-"""What a server has done: its counters, and a line of its log for each statement."""
+"""The accounts of a server: its counters, and a line of its log for each statement."""
 import sys
 import threading
 import time

@@ -53,7 +53,7 @@ class Client:
         self.statements: 'dict[bytes, tuple[Statement | None, list[int]]]' = {}
         self.portals: 'dict[bytes, Portal]' = {}
 
-    # What is sent.
+    # Messages to the client.
 
     def put(self, data: bytes) -> None:
         self.pending.append(data)
@@ -142,7 +142,7 @@ class Client:
             raise Problem('28P01', f'there is no {user}, or the password is another') from None
         self.runner.rights = known.rights
 
-    # What is run.
+    # Requests of the client.
 
     def serve(self) -> None:
         """Serves the client until it leaves, and answers each message."""
@@ -281,7 +281,7 @@ class Client:
     # Answers.
 
     def shown(self, columns: Sequence[wire.Column]) -> int:
-        """How many of the columns are sent: without the witness, if the client has said so."""
+        """The number of columns that are sent: without the witness, if the client has said so."""
         is_sequenced = [column.name for column in columns[-2:]] == ['held', 'absent']
         return len(columns) - 2 * (is_sequenced and not self.session.has_witness())
 

@@ -26,7 +26,7 @@ class Line(NamedTuple):
 
 
 class Format(NamedTuple):
-    """How lines are written."""
+    """The form of lines."""
     is_csv: bool = False
     has_header: bool = False
     delimiter: str = '\t'

@@ -7,7 +7,7 @@ from typing import AbstractSet
 from .moments import AS_MOMENT, MOMENT
 from .problems import Problem
 
-# What ends an operand of - and +, and what may be one: names, calls, and texts of dates.
+# The end of an operand of - and +, and what may be one: names, calls, and texts of dates.
 ENDS = ('AS', 'FROM', 'WHERE', 'GROUP', 'ORDER', 'HAVING', 'LIMIT', 'OFFSET', 'UNION', 'EXCEPT',
         'INTERSECT', 'AND', 'OR', 'NOT', 'IN', 'IS', 'BETWEEN', 'LIKE', 'MATCH', 'WHEN', 'THEN',
         'ELSE', 'END', 'ASC', 'DESC', 'ON', ',', ';', '=', '<', '>', '!', '|', '%', '+', '-')

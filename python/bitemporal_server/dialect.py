@@ -1,5 +1,6 @@
-"""What drivers write, as tokens of docs/PROFILE.md: parameters ($1), casts ('2024-01-01'::date),
-names in double quotes, E'..', /* */ and !=. All else is left as it is, for the engine to judge."""
+"""The writing of drivers, as tokens of docs/PROFILE.md: parameters ($1), casts
+('2024-01-01'::date), names in double quotes, E'..', /* */ and !=. All else is left as it is, for
+the engine to judge."""
 import re
 from typing import Any, Iterator, Optional, Sequence
 

@@ -26,10 +26,11 @@ ENDED = ('57014', 'the query was ended while it ran',
 
 
 class Held:
-    """How many bytes of answers are held for clients, and how many may be (0: any number)."""
+    """The number of bytes of answers that are held for clients, and of those that may be (0: any
+    number)."""
 
     def __init__(self, most: int) -> None:
-        # It may be dropped lines that come here, within another call of the same thread.
+        # Dropped lines may come here, within another call of the same thread.
         self.most, self.lock, self.bytes = most, threading.RLock(), 0
 
     def add(self, count: int) -> bool:
@@ -251,7 +252,7 @@ class Engine:
         return found
 
     def audit(self, kind: str) -> 'tuple[str, ...]':
-        """What the audit of an answer says, if there is one."""
+        """The result of the audit of an answer, if there is one."""
         if kind != 'answer' or not self.audits:
             return ()
         [fields] = records(b''.join(self.lines(1)).decode('utf-8'))

@@ -144,8 +144,8 @@ def span(start: str, end: str) -> str:
 
 
 def days_before(cell: Any, other: Any) -> Any:
-    """What - is: between dates the number of days, between moments the interval, of a date and a
-    number the date so many days earlier; of numbers as ever."""
+    """The meaning of -: between dates the number of days, between moments the interval, of a date
+    and a number the date so many days earlier; of numbers as ever."""
     if cell is None or other is None:
         return None
     if isinstance(other, str):
@@ -156,7 +156,7 @@ def days_before(cell: Any, other: Any) -> Any:
 
 
 def days_after(cell: Any, other: Any) -> Any:
-    """What + is: of a date and a number the date so many days later; of numbers as ever."""
+    """The meaning of +: of a date and a number the date so many days later; of numbers as ever."""
     if cell is None or other is None:
         return None
     date, number = (cell, other) if isinstance(cell, str) else (other, cell)

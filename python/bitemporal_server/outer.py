@@ -65,7 +65,7 @@ class Outer:
             self.columns = self.find_columns()
 
     def name(self) -> str:
-        """What an error or a notice calls it."""
+        """The name in an error or a notice."""
         is_of_tables = all(inner.name.startswith(SCHEMA) for inner in self.inner)
         return 'the query around the ' + ('tables' if is_of_tables else 'parentheses')
 
@@ -141,7 +141,7 @@ class Outer:
             raise self.problem(error, SYNTAX) from None
 
     def problem(self, error: Exception, state: str) -> Problem:
-        """What a client is reported of an error of sqlite, with this SQLSTATE if it has none."""
+        """The report of an error of sqlite to a client, with this SQLSTATE if it has none."""
         text = str(error)
         lack = LACK.fullmatch(text)
         state = STATES.get(lack[1] if lack else text, state)
@@ -240,7 +240,7 @@ def tables_named(text: str, catalog: Catalog) -> 'Optional[list[str]]':
 
 
 def hint(text: str, catalog: Catalog) -> str:
-    """How a query that the profile does not have may be one that sqlite computes."""
+    """A hint that a query which the profile does not have may be one that sqlite computes."""
     words = {word.upper() for word in re.findall(r'\w+', text)}
     name = next((name for name in catalog.tables if name in words), None)
     return f'Or write "{name}" in double quotes: sqlite then computes the query over its current' \

@@ -20,7 +20,7 @@ UNKNOWN = secrets.token_bytes(32)  # makes a salt for each unknown name, always 
 
 
 class User(NamedTuple):
-    """What a user may do, and the verifier of the password. An unknown one has none."""
+    """The rights of a user, and the verifier of the password. An unknown one has none."""
     rights: str
     verifier: Optional[str]
 
@@ -60,7 +60,7 @@ def read_users(path: str) -> 'dict[str, User]':
 
 
 def state_of(path: str) -> 'Optional[Tuple[int, ...]]':
-    """What changes when a file does, or None if it is missing."""
+    """The numbers that change when a file does, or None if it is missing."""
     try:
         found = os.stat(path)
     except OSError:

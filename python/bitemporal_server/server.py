@@ -28,7 +28,7 @@ SOCKET = '.s.PGSQL.5432'
 
 
 class Options(NamedTuple):
-    """How a store is served."""
+    """The options by which a store is served."""
     has_clock: bool = True
     is_read_only: bool = False
     most_clients: int = 20
@@ -83,7 +83,7 @@ class Server:
                     client.connection.shutdown(socket.SHUT_RD)
         for thread, _ in left:
             thread.join(GRACE_SECONDS)
-        # Its own status is 1 if a statement was refused.
+        # The program's own status is 1 if a statement was refused.
         closed = self.engine.close() in (0, 1)
         return self.status or (0 if closed else 2)
 

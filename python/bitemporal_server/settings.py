@@ -13,7 +13,7 @@ SETTINGS = {
     'transaction_isolation': 'read committed', 'default_transaction_read_only': 'off',
     'transaction_read_only': 'off', 'search_path': 'public', 'max_identifier_length': '63',
     'application_name': '', 'bitemporal.witness': 'on'}
-# The settings that a client gets at the start, by the names that PostgreSQL gives them there.
+# The settings that a client is told at the start, by the names that PostgreSQL gives them there.
 TOLD = {'server_version': 'server_version', 'server_encoding': 'server_encoding',
         'client_encoding': 'client_encoding', 'datestyle': 'DateStyle', 'timezone': 'TimeZone',
         'integer_datetimes': 'integer_datetimes', 'intervalstyle': 'IntervalStyle',
@@ -49,7 +49,7 @@ class Answered(NamedTuple):
 
 
 class Session:
-    """What one client has set, and the block in which it is: I none, T one, E a failed one."""
+    """The settings of one client, and the block in which it is: I none, T one, E a failed one."""
 
     def __init__(self) -> None:
         self.settings = dict(SETTINGS)
@@ -89,7 +89,7 @@ class Session:
 
     def answer(self, words: Sequence[str], texts: Sequence[str],
                is_known: bool) -> Optional[Answered]:
-        """What answers a statement with these words; None if it is for the engine."""
+        """The function that answers a statement of these words; None if it is for the engine."""
         first, second = ([*words, '', ''])[:2]
         if first in ('COMMIT', 'END', 'ROLLBACK', 'ABORT') and second != 'TO':
             tag = 'COMMIT' if first in ('COMMIT', 'END') and self.block != 'E' else 'ROLLBACK'

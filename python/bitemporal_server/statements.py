@@ -26,7 +26,7 @@ Statement = Union[dialect.Prepared, Question, outer.Outer]
 
 
 class Result(NamedTuple):
-    """What a statement gives: its tag, its columns (None if it has no rows), its rows, their
+    """The result of a statement: its tag, its columns (None if it has no rows), its rows, their
     number, and a notice."""
     tag: str
     columns: Optional[Sequence[Column]]
@@ -89,7 +89,7 @@ class Runner:
         return found
 
     def answer(self, statement: Statement, given: Sequence[values.Value]) -> Result:
-        """What a statement gives."""
+        """The result of a statement."""
         if isinstance(statement, Question):
             self.session.allow()
             with bounded():

@@ -28,7 +28,7 @@ TYPES = {**dict.fromkeys(('INT', 'INT2', 'INT4', 'INT8', 'INTEGER', 'BIGINT', 'S
          **dict.fromkeys(('TEXT', 'VARCHAR', 'CHARACTER', 'CHAR', 'BPCHAR', 'NAME'), 'TEXT'),
          **dict.fromkeys(('FLOAT', 'FLOAT4', 'FLOAT8', 'DOUBLE', 'REAL', 'NUMERIC', 'DECIMAL'),
                          'REAL')}
-# What says which rows there are, and what may come after it.
+# The words that say which rows there are, and what may come after it.
 CONDITIONS = ('WHERE', 'HAVING', 'LIMIT', 'OFFSET')
 AFTER = ('GROUP', 'ORDER', 'UNION', 'EXCEPT', 'INTERSECT', 'WINDOW')
 LEXEME = re.compile(r"'(?:[^']|'')*'|\[[^\]]*\]|--[^\n]*|/\*.*?\*/|\w+|\s+|.", re.S)

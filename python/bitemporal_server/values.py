@@ -83,7 +83,7 @@ def parameter(data: Optional[bytes], oid: int, form: int, number: int) -> Value:
 
 
 def count_of(numbers: Iterable[int]) -> int:
-    """How many parameters a text has, which names these."""
+    """The number of parameters of a text, which names these."""
     count = max(numbers, default=0)
     if count > MOST_PARAMETERS:
         raise Problem('54000', f'there is a parameter ${count}, and ${MOST_PARAMETERS} is the last')

@@ -1,5 +1,5 @@
-"""What the tools do alike: the words that they take, files that are read and written, and faults
-that end a run with status 2."""
+"""The common work of the tools: the words that they take, files that are read and written, and
+faults that end a run with status 2."""
 import argparse
 import os
 import pathlib
@@ -9,7 +9,7 @@ from typing import NoReturn, Optional, Union
 
 
 class Fault(Exception):
-    """What ends a tool: a line for standard error, and the exit status."""
+    """The end of a tool: a line for standard error, and the exit status."""
 
     def __init__(self, words: object, status: int = 2) -> None:
         super().__init__(words)
@@ -17,7 +17,7 @@ class Fault(Exception):
 
 
 class Parser(argparse.ArgumentParser):
-    """What reads the words of a tool. Wrong ones are a fault."""
+    """The parser of the words of a tool. Wrong ones are a fault."""
 
     def error(self, message: str) -> NoReturn:
         raise Fault(message)

@@ -11,7 +11,7 @@ from bitemporal_tools.sql.tree import Column, Name
 
 from .command_line import Fault
 
-# How each database is called, the comment that says how, its types, and its limit for a name.
+# The name of each database, the comment that says how, its types, and its limit for a name.
 POSTGRESQL, DUCKDB, SQLITE = 'postgresql', 'duckdb', 'sqlite3'
 COMMANDS = {POSTGRESQL: 'psql -f load.sql DATABASE', DUCKDB: 'duckdb DATABASE < load.sql',
             SQLITE: 'sqlite3 DATABASE < load.sql'}

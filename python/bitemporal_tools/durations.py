@@ -1,4 +1,4 @@
-"""How many days the rows of an answer hold: in all, in a row, and the gaps between.
+"""The numbers of days of the rows of an answer: in all, in a row, and the gaps between.
 
     ./bitemporal run x.sql | tools/durations x.sql --by ENO --as-of 2024-06-30
     tools/durations SCRIPT [REPORT] [--only WHICH] [--by COLUMNS] [--as-of DAY] [--top N]
@@ -47,7 +47,7 @@ OF_GROUP = {'DAYS': 'INTEGER', 'STRETCHES': 'INTEGER', 'LONGEST': 'INTEGER', 'FI
 
 
 class Duration(NamedTuple):
-    """What is printed of some values: how many days, and the rest of its line."""
+    """The output for some values: the number of days, and the rest of its line."""
     values: Values
     days: int
     rest: list[str]
@@ -104,7 +104,7 @@ def of_group(values: Values, found: list[Period]) -> Duration:
 
 
 def durations(table: DayTable, places: Sequence[int], what: str) -> list[Duration]:
-    """What is printed: rows, stretches, gaps or groups."""
+    """The output: rows, stretches, gaps or groups."""
     if what == 'rows':
         return [of_period(row.values, (row.start, row.end)) for row in table.rows]
     groups = periods_by(table, places)

@@ -1,4 +1,4 @@
-"""Who ever, and who never: questions about all days at once, or all days of a month.
+"""Questions of who ever, and who never: those about all days at once, or all days of a month.
 
     tools/ever SCRIPT [REPORT] --of COLUMNS --ever ANSWER [--ever ANSWER ..] [--never ANSWER ..]
                [--different COLUMNS [--least N]] [--in DAYS] [--each month|quarter|year] [--who]

@@ -42,6 +42,7 @@ from __future__ import annotations
 
 import argparse
 import gc
+import itertools
 import os
 import sys
 from collections.abc import Iterable, Iterator, Sequence
@@ -55,7 +56,7 @@ from bitemporal_tools.loading.moment_changes import MomentChanges, moment_of_fac
 from bitemporal_tools.loading.clashes import Clashes, ends_a_day_early, handovers_told
 from bitemporal_tools.loading.corrections import Fact
 from bitemporal_tools.loading.csv_file import BadLine, CsvFile
-from bitemporal_tools.loading.fact_columns import DaysOfKey, FactColumns, in_columns
+from bitemporal_tools.loading.fact_columns import FactColumns, column, in_columns
 from bitemporal_tools.loading.mapping import Mapping
 from bitemporal_tools.loading.options import options
 from bitemporal_tools.loading.tables import Groups, has_rows, script_groups, table_of
@@ -133,9 +134,10 @@ class Load:
                         status=1)
         columns = self.mapping.columns()
         stored = self.store.table(self.table) if self.store else None
-        if self.are_new(columns, stored):
+        has_twice = columns.share_a_key()
+        if self.are_new(columns, stored, has_twice):
             self.count, self.held = len(columns.lines), columns.first
-            self.days: Iterable[DaysOfKey] = columns.days()
+            self.days = columns.days() if has_twice else None
             return self.changes.groups_of_new(columns, self.wanted.at or '')
         facts = self.mapping.facts(columns)
         if self.wanted.always and not self.wanted.recorded:
@@ -143,15 +145,18 @@ class Load:
         if self.wanted.recorded:
             facts.sort(key=moment_of_fact)  # and by their lines
         groups = self.groups_of(facts, stored)
-        self.count = len({fact.line for fact in facts})
-        self.days = ((fact.key, fact.start, fact.end) for fact in facts)
-        held = [fact for of_key in self.changes.days.facts.values() for fact in of_key]
-        self.held = lambda most: in_columns(self.table, held[:most])
+        self.count = len(set(column(facts, 0)))
+        self.days = (column(facts, 2), column(facts, 4), column(facts, 5)) if has_twice else None
+        held = self.changes.days.facts
+        self.held = lambda most: in_columns(self.table, list(itertools.islice(
+            itertools.chain.from_iterable(held.values()), most)))
         return groups
 
-    def are_new(self, rows: FactColumns, stored: StoredTable | None) -> bool:
-        """Whether each line of the file is a new row of the table, and none is bad or late."""
-        if not rows.lines or self.file.bad or self.mapping.takes_away or rows.share_a_day():
+    def are_new(self, rows: FactColumns, stored: StoredTable | None, has_twice: bool) -> bool:
+        """Whether each line of the file is a new row of the table, and none is bad or late. Of a
+        key may be several lines if `has_twice`."""
+        if not rows.lines or self.file.bad or self.mapping.takes_away \
+                or has_twice and rows.share_a_day():
             return False
         if self.store and self.wanted.recorded and min(rows.moments) < self.clock:
             return False
@@ -192,7 +197,7 @@ class Load:
         for name, scale in self.mapping.scales.items():
             if scale:
                 yield f'{name} is {unit(scale)}'
-        early = 0 if wanted.inclusive_to else ends_a_day_early(self.days)
+        early = 0 if wanted.inclusive_to or not self.days else ends_a_day_early(self.days)
         if early:
             yield f'{counted(early, "row")} of the file would end on the day before one of their' \
                   ' key begins. If the end is the last day, add --inclusive-to'

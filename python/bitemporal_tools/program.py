@@ -1,4 +1,4 @@
-"""Where the program is.
+"""The place of the program.
 
 In the repository there are up to two builds of it, and a launcher that chooses one and makes it
 if there is none. Installed tools have only the launcher, and tools that

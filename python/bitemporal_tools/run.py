@@ -99,7 +99,7 @@ class Run:
 
 
 def last_line(explanation: Explanation, count: int) -> str:
-    """How many statements were run, refused and answered, and of audits how many agree."""
+    """The numbers of statements that were run, refused and answered, and of audits that agree."""
     if explanation.texts and not explanation.statements:
         return 'bitemporal: the whole script is refused'
     kinds = [record[0] for record in explanation.records]

@@ -52,7 +52,7 @@ NAME = 'bitemporal_file'
 PROMPT, MORE = 'bitemporal> ', '       ...> '
 GREETING = 'Statements end with a semicolon. \\? shows help, \\q ends the session.'
 RUNS_ON = '\nThe statement runs on. Ctrl-C once more kills the program.'
-# What is said of an AT that the system's time refuses.
+# The sentence on an AT that the system's time refuses.
 AT_REFUSALS = {'13': 'later', '40': 'earlier'}
 AT_REFUSED = """    Cause: The session runs at the system's time, and the moment is {} than that.
     What to do: Leave the AT out, or start the session with --script-clock."""

@@ -1,5 +1,5 @@
-"""What the tests of the tools share: runs of a tool and of the program, files, and cases that
-compare."""
+"""Things that the tests of the tools share: runs of a tool and of the program, files, and cases
+that compare."""
 from __future__ import annotations
 
 import functools

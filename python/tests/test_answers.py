@@ -221,7 +221,8 @@ class Answers(support.Case):
                        (2, ''))
 
     def test_parquet(self) -> None:
-        """What pyarrow gets, by a stand-in for it; and what is read of a file, if it is here."""
+        """The columns that pyarrow gets, by a stand-in for it; and what is read of a file, if it is
+        here."""
         paths = self.written(PAY)
         words = ['answers', *paths, '--into', self.files.path('parquet'), '--parquet', '--scale',
                  'K=2']

@@ -160,7 +160,7 @@ class OfPostgresql(unittest.TestCase):
     """The texts are PostgreSQL's, and most give what PostgreSQL gives."""
 
     def rows(self, query: Query) -> 'list[str]':
-        """What a private server gives, which has the tables alone."""
+        """The rows of a private server, which has the tables alone."""
         text = query.text
         for number, value in enumerate(query.said['$'], 1):
             text = text.replace(f'${number}', value if value.isdecimal() else f"'{value}'")

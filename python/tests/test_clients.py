@@ -23,7 +23,7 @@ PYTHON = '/usr/bin/python3'
 JDBC = '/usr/share/java/postgresql.jar'
 HAS_JDBC = shutil.which('javac') and pathlib.Path(JDBC).exists()
 CREATE = support.create_table('PAY', 'ENO INTEGER, NAME VARCHAR(20), CENTS INTEGER', 'ENO', 'EP')
-# What each script of Python begins with. It gets the folder of the socket, or the port.
+# The head of each script of Python. A script gets the folder of the socket, or the port.
 HEAD = f'''
 import datetime, sys
 D = datetime.date
@@ -311,7 +311,7 @@ class Clients(unittest.TestCase):
         self.run_script(DBAPI)
 
     def run_java(self, name: str, text: str, *words: str) -> str:
-        """What a program says, which gets the port and these words."""
+        """The output of a program, which gets the port and these words."""
         with tempfile.TemporaryDirectory() as folder, \
                 served('--listen', '127.0.0.1:0') as port:
             pathlib.Path(folder, f'{name}.java').write_text(text)

@@ -45,7 +45,7 @@ class Disks(StoreTests):
         self.tool('dump', self.store, '--to', self.path('dump'))
 
     def commands(self, new: str) -> 'dict[str, list[str]]':
-        """What makes `new` of the store or of its dump, by the name of the tool."""
+        """The commands that make `new` of the store or of its dump, by the name of the tool."""
         tools = {'alter': [self.store, '--add', 'EMP.X', 'INTEGER', '0'],
                  'restore': [self.path('dump')], 'dump': [self.store],
                  'dump --script': [self.store, '--script'],
@@ -89,7 +89,7 @@ class Disks(StoreTests):
         self.assertEqual(copied_away(self.store), before)
 
     def taken(self, name: str) -> object:
-        """What a store, a dump or a script has. It is gone then."""
+        """The content of a store, a dump or a script, which is gone then."""
         path = pathlib.Path(self.path(name))
         if path.is_dir():
             found: object = texts(str(path))

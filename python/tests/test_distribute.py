@@ -152,7 +152,7 @@ def is_told(kind: str, parts: list[list[Row]],
 
 
 def judged(queries: list[str], by: dict[str, list[str]]) -> list[str]:
-    """How each query splits, if the tables of `by` are in parts."""
+    """The verdict on each query, if the tables of `by` are in parts."""
     kinds, catalog = [], Catalog()
     for statement in judge(script_of({name: [] for name in 'TUW'}, lambda *_: True, queries)):
         assert not statement.faults, statement.told
@@ -258,7 +258,7 @@ class Distribute(Case):
                    min(numbers.values()) > 0, True)
 
     def test_verdicts(self) -> None:
-        """What the tool says without servers."""
+        """The tool's words without servers."""
         script = self.files.write('staff.sql', STAFF_SCRIPT)
         status, output, errors = tool('distribute', '--whole', 'DEP', script)
         said = re.findall('(?m)^-- ([0-9]+): (\\w+)', output)

@@ -60,7 +60,7 @@ K,PLACE,DAYS,valid_from,valid_to
 """, ''))
 
     def test_longest(self) -> None:
-        """Those as long as the last that is shown are reported."""
+        """Rows as long as the last that is shown are reported."""
         self.assertEqual(self.printed('--gaps', '--by', 'K')[1:], ("""\
 K,DAYS,valid_from,valid_to
 2,40,2024-01-21,2024-03-01

@@ -1,5 +1,6 @@
 #!/usr/bin/env python3
-"""Who ever, and who never: compared with sets of days, and windows of days by their names."""
+"""Questions of who ever, and who never: compared with sets of days, and windows of days by their
+names."""
 import datetime
 import random
 import unittest

@@ -58,7 +58,7 @@ class Line:
 
 
 class Way:
-    """How an export is read: the options, chosen at random."""
+    """A way to read an export: the options, chosen at random."""
 
     def __init__(self, choose: random.Random) -> None:
         self.inclusive, self.removed = choose.random() < 0.5, choose.random() < 0.4
@@ -98,7 +98,7 @@ def state(lines: list[Line], way: Way) -> States:
 
 
 def loaded(rows: list[list[str]]) -> States:
-    """The same of the version records of a report."""
+    """The rows of the version records of a report."""
     found: dict[tuple[object, datetime.date], list[object]] = {}
     for key, letter, pay, note, start, end, *_ in rows:
         for day in DAYS:
@@ -257,7 +257,7 @@ def apart(choose: random.Random) -> Iterator[tuple[object, ...]]:
 
 
 def loaded_rows(status: int, script: str, told: str) -> tuple[int, list[tuple[str, str]], str]:
-    """How a load ended, with the rows of its INSERTs after their moments."""
+    """The end of a load, with the rows of its INSERTs after their moments."""
     found, moment = [], ''
     for line in script.partition('VERSIONING')[2].splitlines():
         moment = line if line.startswith('AT') else moment

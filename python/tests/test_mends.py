@@ -51,7 +51,7 @@ UPDATE EMP FOR PORTION OF EP FROM DATE '2024-02-01' TO DATE '9999-12-31'
 SELECT * FROM EMP WHERE ENO = 1
 VALIDTIME SELECT DISTINCT ENO FROM EMP WHERE ENO = 1
  EXCEPT SELECT DISTINCT DEPT FROM EMP""".replace('\n ', ' ').split('\n')
-# What spoils a statement, as words and with ~ for a space.
+# Edits that spoil a statement, as words and with ~ for a space.
 SPOILERS = """
 HISTORY ONLY NOT AND OR XOR NOR ( ) , = < <> . * X ENO 3 1.5 'x' NULL AS SELECT ALL UNDO
 LIMIT~1 ORDER~BY~ENO TOP~1 RETURNING~* IS~NULL IS~NOT~NULL =~NULL LIKE~'A_' LIKE~'An%' NOT~LIKE~'%n'
@@ -79,14 +79,14 @@ def cases(path: pathlib.Path) -> Iterator[tuple[str, str, str, str]]:
 
 
 def explained(mode: str, script: bytes) -> tuple[Union[int, str], str]:
-    """What is said of a script, given as bytes, and of its report."""
+    """The sentences on a script, given as bytes, and of its report."""
     status, report, _ = program.got([mode], script)
     texts = Explanation('x.sql', script, report.decode('utf-8'), Catalog()).texts
     return status, '\n\n'.join(texts) + '\n' * bool(texts)
 
 
 def changed(rows: CurrentRows, tree: Optional[Tree]) -> set[tuple[object, ...]]:
-    """What a tree changes: a column of a row on a day, each."""
+    """The changes of a tree: a column of a row on a day, each."""
     if not isinstance(tree, (Update, Delete)):
         return {('all',)} if isinstance(tree, Insert) else set()
     table = rows.of(tree.table)

@@ -34,14 +34,14 @@ QUERIES = ['VALIDTIME SELECT DISTINCT NOTE FROM T', 'VALIDTIME SELECT DISTINCT K
 
 
 def whole(files: Files, script: str, *words: str) -> tuple[Union[int, str], str, str]:
-    """What `run` gives for the script, with the numbers left out that slices can't tell."""
+    """The report of `run` for the script, with the numbers left out that slices can't tell."""
     status, given, errors = program.got(['run', *words, files.write('whole.sql', script)])
     output = re.sub('(?m)^(done,[0-9]+,(?:update|delete),)[0-9]+$', r'\1', given.decode())
     return status, re.sub('(?m)^(audit,[0-9]+,agrees,)[0-9]+$', r'\1', output), errors.decode()
 
 
 def sliced(files: Files, script: str, *words: str) -> tuple[int, str, str]:
-    """What over_days gives; it may say on standard error that slices were run again."""
+    """The report of over_days; it may say on standard error that slices were run again."""
     status, output, errors = tool('over_days', *words, files.write('sliced.sql', script))
     kept = [line for line in errors.splitlines() if 'run again without it' not in line]
     return status, re.sub('(?m)^(audit,[0-9]+,agrees,)[0-9]+$', r'\1', output), '\n'.join(kept)
@@ -184,7 +184,7 @@ class OverDays(Case):
                    (0, b'done,1,create,0\n', b''))
 
     def test_refused(self) -> None:
-        """What is reported, and nothing is answered."""
+        """Faults that are reported, and nothing is answered."""
         queries = ';\n'.join([TABLE, *QUERIES])
         script = self.files.write('queries.sql', queries)
         good = self.files.write('good.csv', 'K,NOTE,S,E\n1,a,2024-01-01,2024-03-01\n')
@@ -283,7 +283,8 @@ class OverDays(Case):
                        whole(self.files, script, *audit))
 
     def test_elsewhere_refused(self) -> None:
-        """What is no folder of slices, and what --join says if reports are missing or wrong."""
+        """Paths that are no folder of slices, and what --join says if reports are missing or
+        wrong."""
         script, folder = self.files.write('rows.sql',
                                           script_of(list(rows(40)))), self.files.path('elsewhere')
         other = self.files.write('other.sql', TABLE)

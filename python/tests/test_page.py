@@ -76,7 +76,7 @@ class Page:
 
 
 class Requests(unittest.TestCase):
-    """What the page may ask, and who may ask it."""
+    """Requests that the page may make, and who may ask it."""
 
     def setUp(self) -> None:
         self.page = Page()

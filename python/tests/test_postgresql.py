@@ -43,7 +43,7 @@ def examples() -> Iterator[pathlib.Path]:
 
 class PostgreSQL(Case):
     def test_words(self) -> None:
-        """What needs no server."""
+        """Words that need no server."""
         for name in ('to_postgresql', 'compare_postgresql'):
             status, output, errors = tool(name, '--help')
             self.equal(f'{name} --help', (status, 'exit status' in output, errors), (0, True, ''))
@@ -62,7 +62,7 @@ class PostgreSQL(Case):
 
 @unittest.skipUnless(is_installed(), 'no PostgreSQL here')
 class OverPostgreSQL(Case):
-    """What is compared over a server of its own."""
+    """Comparisons over a server of its own."""
     server: PrivateServer
 
     @classmethod

@@ -61,7 +61,7 @@ def runs(days: Iterable[int]) -> list[tuple[int, int]]:
 
 
 class Export:
-    """What the CSV files say of each day."""
+    """The sayings of the CSV files of each day."""
 
     def __init__(self, folder: str) -> None:
         self.folder = folder
@@ -102,7 +102,7 @@ class Export:
 
     @functools.cached_property
     def managers(self) -> dict[tuple[int, int], set[int]]:
-        """Who manages a department on a day."""
+        """The managers of a department on a day."""
         found: dict[tuple[int, int], set[int]] = collections.defaultdict(set)
         for line in self.read('managers'):
             for at in self.days(line):
@@ -155,7 +155,7 @@ class Questions(unittest.TestCase):
             return list(csv.reader(file))[1:]
 
     def output(self, *words: str) -> list[list[str]]:
-        """What the page shows of its one command with these words, as a table without names."""
+        """The page's output of its one command with these words, as a table without names."""
         [(output, shown)] = [found for command, found in self.printed.items()
                              if all(word in command for word in words)]
         self.assertEqual(output, shown)

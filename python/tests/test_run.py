@@ -56,7 +56,7 @@ def last_line(text: bytes) -> str:
 
 class Run(Case):
     def test_documents(self) -> None:
-        """What the documents show is what one gets."""
+        """The outputs that the documents show are what one gets."""
         script = block('docs/PROFILE.md', 'SELECT DISTINCT PAY FROM EMP;', "DATE '2024-05-01'")
         report = block('docs/PROFILE.md', 'done,1,create,0', '2024-05-01,2024-01-01')
         said = block('docs/PROFILE.md', 'staff.sql:9:1: statement 4: 24 UnknownColumn')
@@ -149,7 +149,7 @@ class Run(Case):
                        (done.returncode, b'is no list of' in done.stderr), (2, True))
 
     def test_ends(self) -> None:
-        """What is not a script, and what cannot be read or written."""
+        """Files that are no scripts, and those that cannot be read or written."""
         for path, why in ((self.folder / 'none.sql', 'No such file or directory'),
                           (self.folder, 'Is a directory')):
             self.equal(f'cannot read: {why}', run([path]),

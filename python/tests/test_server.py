@@ -257,7 +257,7 @@ class Clients(unittest.TestCase):
         self.assertEqual(self.client.query('SELECT * FROM PAY')[0].rows, [])
 
     def test_several_statements(self) -> None:
-        """Those before a refused one are done, and the error says how many."""
+        """Statements before a refused one are done, and the error says how many."""
         with self.assertRaises(Refused) as caught:
             self.client.query('; '.join([INSERT.format(1, 'Ann'), INSERT.format(2, 'Max'),
                                          INSERT.format(1, 'Eve'), INSERT.format(3, 'Tom')]))
@@ -328,7 +328,7 @@ class Clients(unittest.TestCase):
 
     @unittest.skipUnless(shutil.which('psql'), 'apt-get install postgresql-client')
     def test_commands_of_psql(self) -> None:
-        """What psql asks by its commands is understood, each of it."""
+        """The questions that psql asks by its commands are understood, each of them."""
         commands = ('d', 'dS', 'd+', 'd PAY', 'd+ PAY', 'd pay', 'd PAY_pkey', 'dt+', 'di+', 'dn+',
                     'l', 'du', 'df', 'dv', 'ds', 'dp', 'dT', 'dx', 'dy', 'db', 'dd', 'do', 'dE',
                     'dm', 'da', 'dL', 'dC', 'dO', 'sf none', 'conninfo')
@@ -713,7 +713,8 @@ class Safety(unittest.TestCase):
             self.assertEqual(len(client.query('SELECT * FROM PAY')[0].rows), 1)
 
     def test_slow_outer_queries(self) -> None:
-        """What sqlite computes keeps no other client waiting, and is ended as queries are."""
+        """A query that sqlite computes keeps no other client waiting, and is ended as queries
+        are."""
         text = ('SELECT COUNT(*) FROM "PAY" a, "PAY" b, "PAY" c, "PAY" d, "PAY" e'
                 ' WHERE a."ENO" + b."ENO" + c."ENO" + d."ENO" + e."ENO" < 0')
         with served() as store, connected(store) as client, connected(store) as other:
@@ -788,7 +789,7 @@ class Command(unittest.TestCase):
 
     @unittest.skipUnless(shutil.which('psql'), 'apt-get install postgresql-client')
     def test_page(self) -> None:
-        """What docs/SERVER.md shows of psql is what one gets."""
+        """The sessions of psql that docs/SERVER.md shows are what one gets."""
         page = (ROOT / 'docs/SERVER.md').read_text('utf-8')
         shown = re.findall(r'^\$ (psql [^\n]*)\n(.*?)(?=^\$ |^```)', page, re.M | re.S)
         self.assertGreater(len(shown), 2)

@@ -39,7 +39,7 @@ class Terminal:
         os.set_blocking(self.file, False)
 
     def read(self) -> str:
-        """What is shown next, or nothing at the end."""
+        """The text that is shown next, or nothing at the end."""
         ready, _, _ = select.select([self.file], [], [], SECONDS)
         try:
             text = os.read(self.file, 4096).decode('utf-8') if ready else ''
@@ -50,7 +50,7 @@ class Terminal:
         return text
 
     def until(self, end: str) -> str:
-        """What is shown up to this, which ends it."""
+        """The text that is shown up to this, which ends it."""
         while not self.shown.endswith(end) and self.read():
             pass
         text, self.shown = self.shown, ''
@@ -68,7 +68,7 @@ class Terminal:
                 time.sleep(0.01)
 
     def ask(self, text: str, end: str = '\n' + PROMPT) -> str:
-        """What is shown after a text that is typed, up to the next prompt."""
+        """The text that is shown after one that is typed, up to the next prompt."""
         self.send(text)
         found = self.until(end)
         return found[:-len(PROMPT)] if found.endswith(PROMPT) else found
@@ -88,7 +88,7 @@ def start(*words: str) -> Terminal:
 
 
 def shown(found: str) -> str:
-    """What is shown after the line that was typed, which the terminal shows too."""
+    """The text after the line that was typed, which the terminal shows too."""
     return found.partition('\n')[2]
 
 

@@ -27,7 +27,7 @@ from random_scripts import check_script, run_script
 from support import Case, chosen, program
 
 CLASSES = {'name': A_NAME, 'number': A_NUMBER, 'text': A_TEXT, 'end': THE_END}
-# How often, and in how long pieces, the place of what is wrong is compared: it takes long.
+# The place of what is wrong is compared so often, and in pieces so long: it takes long.
 EACH, MOST_TOKENS = 8, 300
 
 
@@ -88,7 +88,7 @@ class Grammar:
 
 
 def check_differs(script: bytes, grammar: Optional[Grammar]) -> Optional[tuple[object, object]]:
-    """What differs between the module and `check`, or else between it and a grammar."""
+    """The difference between the module and `check`, or else between it and a grammar."""
     got = program.got(['check'], script)
     try:
         statements = statements_of(decoded(script))
@@ -135,7 +135,7 @@ def run_differs(script: bytes) -> Optional[tuple[object, object]]:
 
 
 def shape(query: Query) -> Union[str, list[Any]]:
-    """How a query is read: its tables, with a list for each run of operators of one strength."""
+    """The reading of a query: its tables, with a list for each run of operators of one strength."""
     if isinstance(query, Select):
         return query.references[0].table
     return [shape(query.first),
@@ -143,7 +143,7 @@ def shape(query: Query) -> Union[str, list[Any]]:
 
 
 def strength_differs() -> Optional[tuple[object, object]]:
-    """What is wrong with the strength of set operators: INTERSECT is the strongest, the rest are
+    """A fault of the strength of set operators: INTERSECT is the strongest, the rest are
     of one strength, and all apply from left to right."""
     asked = ('A INTERSECT B', 'A UNION B INTERSECT DISTINCT C EXCEPT D',
              'A INTERSECT B INTERSECT C UNION DISTINCT D', '(A EXCEPT B) INTERSECT (C UNION D)')

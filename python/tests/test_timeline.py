@@ -91,7 +91,7 @@ def size_of(box: Element, name: str) -> float:
 
 
 def boxes_of(picture: Element) -> list[tuple[str, float]]:
-    """What each box of a picture says, with its height."""
+    """The text of each box of a picture, with its height."""
     return [(said_by(box), size_of(box, 'height')) for box in picture.iter(SVG + 'rect')]
 
 
@@ -104,7 +104,7 @@ def png_converter() -> Optional[str]:
     return next(filter(shutil.which, png.CONVERTERS), None)
 
 
-# What is wrong with the texts of a page: one that leaves its picture, one that covers another, one
+# Faults of the texts of a page: one that leaves its picture, one that covers another, one
 # inside a box that leaves it.
 LAYOUT = '''<script>
 const wrong = [];
@@ -333,7 +333,7 @@ class Timeline(support.Case):
             self.holds(f'{title}: something is drawn', len(data) > 20_000, len(data))
 
     def layout(self, page: str) -> dict[str, Any]:
-        """What the browser finds of a page."""
+        """The browser's findings on a page."""
         path = self.files.write('layout.html', page.replace('</body>', LAYOUT + '</body>'))
         shown = self.browse('--window-size=1120,900', '--dump-dom', f'file://{path}')
         [text] = re.findall('<pre id="layout">({.*?)</pre>', shown, re.DOTALL)[-1:]
@@ -349,7 +349,7 @@ class Timeline(support.Case):
         return data
 
     def browse(self, *words: str) -> str:
-        """What the browser prints, of a page that this test made."""
+        """The browser's output, of a page that this test made."""
         command = [str(browser()), '--headless', '--no-sandbox', '--disable-gpu',
                    '--hide-scrollbars', f'--user-data-dir={self.files.path("browser")}', *words]
         return subprocess.run(command, stdout=subprocess.PIPE, stderr=subprocess.DEVNULL,

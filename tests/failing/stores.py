@@ -24,7 +24,7 @@ SELECT * FROM EMP"""
 # One row is updated, and three current versions exist then.
 CHANGED = re.compile(rb'opened\ndone,1,update,1\nversions,2,6,3\n')
 
-# What sqlite3 does to the store, each with how it has to end: it is opened and changed; it, or the
+# Changes of the store by sqlite3, each with how it has to end: it is opened and changed; it, or the
 # change, is refused with this number; or it is not opened by the kit's `sqlite` at all.
 OPENED, UNOPENED = 'opened', 'unopened'
 VERSION_COLUMNS = ('tab INTEGER NOT NULL, vals BLOB NOT NULL, s INTEGER NOT NULL,'
@@ -100,14 +100,14 @@ PLACES = [0, 1, 3, 5, 8, 20, 60, 100, 512, 2048, 4000, 4090, 4095]
 
 
 def over(program, env, file, script, part='store'):
-    """What the program prints of a script over the store in a file."""
+    """The program's output of a script over the store in a file."""
     ran = subprocess.run([program, part, file], input=script.encode(), env=env, timeout=900,
                          stdout=subprocess.PIPE, stderr=subprocess.STDOUT, check=False)
     return ran.stdout if ran.returncode == 0 else b'status %d: ' % ran.returncode + ran.stdout
 
 
 def done(file, sql):
-    """What sqlite3 does to a file."""
+    """A change of a file by sqlite3."""
     connection = sqlite3.connect(file)
     connection.executescript(sql)
     connection.close()
@@ -122,7 +122,7 @@ def dump(file):
 
 
 def rest(file):
-    """What a database has besides the rows of the three tables."""
+    """The content besides the rows of the three tables."""
     return [line for line in dump(file) if not line.startswith('INSERT INTO "bt_')]
 
 
@@ -163,7 +163,7 @@ class Trial:
         return [file.read_bytes() for file in (self.file, self.beside) if file]
 
     def run(self, program, env):
-        """What is wrong with how it ends, or nothing."""
+        """The fault of the end of a run, or nothing."""
         before = self.files()
         rows = dump(self.file) if isinstance(self.wanted, int) else None
         others = rest(self.file) if self.wanted == OPENED else None
@@ -218,7 +218,7 @@ def trials(base, folder):
 
 
 def run(program, env, folder, pool):
-    """How many odd stores end as they have to, and how many don't."""
+    """The numbers of odd stores that end as they have to, and of those that don't."""
     if sqlite3.sqlite_version_info < (3, 37):
         print('stores: no sqlite3 with STRICT tables here, so they are left out')
         return 0, 0

@@ -61,7 +61,7 @@ def period_sql(table: Table, alias: str) -> str:
 
 
 def window_sql(window: Optional[Window], table: Table, alias: str) -> str:
-    """That a window sees a version; without one, that the version is current."""
+    """The condition that a window sees a version; without one, that the version is current."""
     start, end = system_sql(table, alias)
     if window is None:
         return f'{end} = {FOREVER_SQL}'

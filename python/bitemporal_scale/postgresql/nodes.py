@@ -153,7 +153,7 @@ def start_sql(schema: str) -> str:
 def coordinator_sql(catalog: Catalog, columns: dict[str, list[str]],
                     queries: list[tuple[int, Query, str]], connections: list[str],
                     schema: str) -> Iterator[str]:
-    """What the coordinator gets: servers, tables and the answers' views."""
+    """The script of the coordinator: servers, tables and the answers' views."""
     nodes = len(connections)
     yield start_sql(schema).replace('BEGIN;\n', 'BEGIN;\nCREATE EXTENSION IF NOT EXISTS'
                                                 ' postgres_fdw;\n')
@@ -171,7 +171,7 @@ def coordinator_sql(catalog: Catalog, columns: dict[str, list[str]],
 
 def node_sql(catalog: Catalog, queries: list[tuple[int, Query, str]], connection: str,
              schema: str) -> Iterator[str]:
-    """What a node gets: its part of each table, or the whole of it, and its views."""
+    """The script of a node: its part of each table, or the whole of it, and its views."""
     yield f'\\connect -reuse-previous=off {text_of_psql(connection)}\n{start_sql(schema)}'
     for table in catalog.tables.values():
         yield table_sql(table, Options())

@@ -1,10 +1,10 @@
-"""Which sequenced queries can be answered node by node, if tables are in parts.
+"""Sequenced queries that can be answered node by node, if tables are kept in parts.
 
 Each table is on every node as a whole, or in parts: then a row is on the node that its columns of
 distribution choose, by one function of their values for all tables. A query splits if the
 answers of the nodes, each over its own rows, are together the answer:
 
-- A SELECT of one table in parts splits. One of several does if equalities that must hold tie
+- A SELECT of one table in parts splits. One of several does where equalities that must hold tie
   their columns of distribution, so that rows that meet are on one node. Tables that are whole
   don't matter.
 - UNION splits if both sides do. EXCEPT and INTERSECT do if both sides do and have the
@@ -32,12 +32,12 @@ Places = Optional[frozenset[tuple[int, ...]]]
 
 
 class Crossing(Exception):
-    """Why a node would need other nodes' rows."""
+    """Why a node would need the rows of others."""
 
 
 def verdict(query: Query, catalog: Catalog, columns: dict[str, list[str]]) -> str:
-    """How a query splits, if `columns` has the columns of distribution of each table in parts:
-    whole, disjoint or merge. A Crossing if it does not split."""
+    """The way in which a query splits, if `columns` has the columns of distribution of each table
+    in parts: whole, disjoint or merge. A Crossing if it does not split."""
     places = places_of(query, catalog, columns)
     if places is None:
         return WHOLE

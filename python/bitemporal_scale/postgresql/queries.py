@@ -12,7 +12,7 @@ from .words import indented, name_sql
 
 
 def columns_of(count: int) -> list[str]:
-    """What the columns of a query of ours are called."""
+    """The names of the columns of a query of ours."""
     return [f'c{place}' for place in range(1, count + 1)]
 
 

@@ -49,7 +49,7 @@ def answer_sql(number: int, query: Query, catalog: Catalog) -> str:
 
 
 def stored_parts(stored: Stored, catalog: Catalog) -> tuple[str, str]:
-    """What a stored query reads, its condition and its order."""
+    """The table and the condition of a stored query, and its order."""
     table = catalog.tables[stored.table]
     tests = [window_sql(stored.window, table, 't')]
     if stored.where:

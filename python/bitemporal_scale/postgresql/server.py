@@ -91,7 +91,7 @@ class PrivateServer:
 
 
 def psql(connection: str, script: bytes) -> bytes:
-    """What psql prints for a script (bytes), rows alone; the first error ends it."""
+    """The output of psql for a script (bytes), rows alone; the first error ends it."""
     words = ['psql', '-qAtX', '-v', 'ON_ERROR_STOP=1', '-d', connection, '-f', '-']
     environment = dict(os.environ, PGCLIENTENCODING='UTF8', PGOPTIONS='')
     try:

@@ -71,7 +71,7 @@ class CsvRows:
         self.tokens = 2 + sum(2 if column.kind == 'VARCHAR' else 3 for column in self.given)
 
     def maker(self, column: Column) -> Callable[[str], str]:
-        """What makes the literal of a cell of the column."""
+        """The function that makes the literal of a cell of the column."""
         if column.kind == 'INTEGER':
             return integer_literal
         if column.kind == 'VARCHAR':

@@ -1,7 +1,7 @@
 """The answers of the slices joined at the borders.
 
 Each slice's answer is the answer on its days. So the rows of all slices are the answer's on all
-days, and if a row ends at a border and one of equal values begins there, they are one row. All
+days, and where a row ends at a border and one of equal values begins there, they are one row. All
 slices give their rows in the order of answers, and so does what is joined. A row keeps the
 witness of its first part: its values do not hold on the day before, or that part would have been
 joined to another.
@@ -17,7 +17,7 @@ Order = tuple[list[Union[int, str]], str]
 
 
 def ordered(kinds: list[Optional[str]]) -> Callable[[list[str]], Order]:
-    """How rows of values of the types are ordered: by the values, then by first day. Texts go by
+    """The order of rows of values of these types: by the values, then by first day. Texts go by
     their code points, which are in the order of their UTF-8 bytes."""
     def key(row: list[str]) -> Order:
         return [int(cell) if kind == 'INTEGER' else cell

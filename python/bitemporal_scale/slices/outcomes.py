@@ -37,7 +37,7 @@ def fields(line: bytes) -> list[str]:
 
 
 def outcomes(part: SliceFile) -> dict[Numbered, Outcome]:
-    """What became of each statement of a slice, by number, as the file of its report says."""
+    """The outcome of each statement of a slice, by number, as the file of its report says."""
     numbers, found = part.numbers(), dict[Numbered, Outcome]()
     with open(part.report, 'rb') as file:
         reader = Reader(file)

@@ -7,16 +7,16 @@ from bitemporal_tools.sql.refusals import MOST_BYTES
 
 
 class Loaded:
-    """What an INSERT of loaded rows has in the place of a number: the file that they are of."""
+    """The part of an INSERT of loaded rows in the place of a number: the file that they are of."""
 
     def __init__(self, path: str) -> None:
         self.path = path
 
 
 class Outcome(NamedTuple):
-    """Its kind is done, answer or refused; `fields` are its record's after the number. Of an
-    answer `names` are the columns, `place` is where its rows begin in the file, and `audit` has the
-    fields of its audit, or is None."""
+    """An outcome's kind is done, answer or refused; `fields` are those of its record after the
+    number. Of an answer `names` are the columns, `place` is where its rows begin in the file, and
+    `audit` has the fields of its audit, or is None."""
     kind: str
     fields: list[str]
     names: list[str] = []

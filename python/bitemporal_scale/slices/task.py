@@ -1,4 +1,4 @@
-"""What a worker of a Dask cluster runs: this module's text is sent with each task, so it needs
+"""The task of a worker of a Dask cluster: this module's text is sent with each task, so it needs
 nothing but Python's standard library there."""
 import hashlib
 import os

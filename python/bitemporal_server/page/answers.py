@@ -1,4 +1,4 @@
-"""What the page asks, as values that JSON has."""
+"""The questions of the page, as values that JSON has."""
 import threading
 from typing import Any, Dict, Optional
 
@@ -122,7 +122,7 @@ class Asker:
                     'rows': [[row[at] for at in shown] for row in rows]}
 
     def changes(self, name: str, first: str, second: str) -> Answer:
-        """What a table had at one moment and not at another, and the other way round."""
+        """The rows that a table had at one moment and not at another, and the other way round."""
         before = self.state(name, first, None)
         after = self.state(name, second, None)
         return {'columns': before['columns'],

@@ -96,7 +96,7 @@ class Rename:
                 names(reference.parent_columns) if parent else reference.parent_columns)
 
         schema.put(table.name, columns=tuple(
-            dataclasses.replace(column, name=renamed(column.name)) for column in table.columns),
+            column._replace(name=renamed(column.name)) for column in table.columns),
             start=renamed(table.start), end=renamed(table.end), key=names(table.key))
         sources = schema.altered[table.name].sources
         if self.old in sources:
@@ -115,8 +115,8 @@ class RenameTable:
             raise Fault(f'there is a table {new} already')
         schema.put(table.name, name=new)
         schema.altered = {altered.table.name: altered for altered in schema.altered.values()}
-        schema.change_references(lambda _, reference: dataclasses.replace(
-            reference, parent=new) if reference.parent == table.name else reference)
+        schema.change_references(lambda _, reference: reference._replace(parent=new)
+                                 if reference.parent == table.name else reference)
 
 
 @dataclasses.dataclass(frozen=True)
@@ -136,7 +136,7 @@ class Widen:
             raise Fault(f'{table.name}.{column.name} is {column.type}: it can be made wider, and'
                         ' not narrower')
         schema.put(table.name, columns=tuple(
-            dataclasses.replace(one, number=self.length) if one == column else one
+            one._replace(number=self.length) if one == column else one
             for one in table.columns))
 
 

@@ -1,7 +1,7 @@
 """The tables as they are to be, and from which values each of their columns is made."""
 import dataclasses
 from collections.abc import Callable, Iterator, Sequence
-from typing import Union
+from typing import Any, Union
 
 from bitemporal_tools.command_line import Fault
 from bitemporal_tools.sql.lexis import RESERVED
@@ -54,10 +54,10 @@ class Schema:
             raise Fault(f'there is no table {name}; the tables are {known}')
         return self.altered[name].table
 
-    def put(self, known_as: str, **changes: object) -> None:
+    def put(self, known_as: str, **changes: Any) -> None:
         """Changes what a table is, under the name by which it is known."""
         altered = self.altered[known_as]
-        altered.table = dataclasses.replace(altered.table, **changes)
+        altered.table = altered.table._replace(**changes)
 
     def references_to(self, name: str) -> Iterator[tuple[Table, Reference]]:
         """The references of other tables to a table."""
@@ -70,7 +70,7 @@ class Schema:
         """Puts another reference in the place of each."""
         for altered in self.altered.values():
             table = altered.table
-            altered.table = dataclasses.replace(table, references=tuple(
+            altered.table = table._replace(references=tuple(
                 change(table, reference) for reference in table.references))
 
     def tables(self) -> list[Altered]:

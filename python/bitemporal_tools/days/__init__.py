@@ -1,4 +1,4 @@
-"""What is reckoned over the days of an answer: outside the proofs, in whole numbers.
+"""Reckonings over the days of an answer: outside the proofs, in whole numbers.
 
     numbers    days as numbers
     rows       the rows of an answer, with days as numbers

@@ -40,7 +40,7 @@ class Condition:
 
 
 def condition(text: str, answers: Sequence[Asked]) -> Condition:
-    """What is written as ANSWER or ANSWER:COLUMN=VALUE,COLUMN=VALUE."""
+    """A condition that is written as ANSWER or ANSWER:COLUMN=VALUE,COLUMN=VALUE."""
     which, _, pairs = text.partition(':')
     table = by_name(answers, which).days
     wanted = []
@@ -54,8 +54,8 @@ def condition(text: str, answers: Sequence[Asked]) -> Condition:
 
 @dataclasses.dataclass
 class Choice:
-    """Who is chosen in a window: whom each of `ever` holds of on some day of it, and none of
-    `never` on any. With `least` the values that are counted have to be so many at least."""
+    """The choice of somebody in a window: whom each of `ever` holds of on some day of it, and none
+    of `never` on any. With `least` the values that are counted have to be so many at least."""
     ever: Sequence[DaysOf]
     never: Sequence[DaysOf]
     counted: dict[Values, DaysOf]
@@ -69,7 +69,7 @@ class Choice:
                 yield who
 
     def values_in(self, who: Values, window: Window) -> int:
-        """How many of the values that are counted somebody has in a window."""
+        """The number of the counted values that somebody has in a window."""
         return sum(some_of(periods, window) for periods in self.counted.get(who, {}).values())
 
 

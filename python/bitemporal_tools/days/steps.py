@@ -10,7 +10,7 @@ from bitemporal_tools.days.rows import Values
 
 
 class Share(NamedTuple):
-    """What a row adds to the totals of its group, from day `start` on and before day `end`."""
+    """The share of a row in the totals of its group, from day `start` on and before day `end`."""
     group: Values
     amounts: tuple[int, ...]
     start: int

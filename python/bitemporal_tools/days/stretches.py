@@ -16,12 +16,12 @@ def stretches(periods: Iterable[Period]) -> list[Period]:
 
 
 def gaps(found: list[Period]) -> list[Period]:
-    """What is between stretches."""
+    """The days between stretches."""
     return [(end, start) for (_, end), (start, _) in zip(found, found[1:])]
 
 
 def days(periods: Iterable[Period]) -> int:
-    """How many days periods have that share none."""
+    """The number of days of periods that share none."""
     return sum(end - start for start, end in periods)
 
 

@@ -42,7 +42,8 @@ def months(first: int, end: int, kind: str) -> Iterator[Window]:
 
 
 def one_window(text: str) -> Period:
-    """What is written as 2024, 2024-Q2, 2024-03 or a day. ValueError if it is none of them."""
+    """The window that is written as 2024, 2024-Q2, 2024-03 or a day. ValueError if it is none of
+    them."""
     found = re.fullmatch(r'(\d{4})(?:-(?:Q([1-4])|(\d\d)))?', text)
     if not found:
         day = ordinal(text)

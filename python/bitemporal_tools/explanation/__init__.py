@@ -1,4 +1,4 @@
-"""What tools/explain and tools/run say of refusals.
+"""The sentences of tools/explain and tools/run on refusals.
 
     texts         sentences for a terminal: shortened, wrapped
     causes        of each number what is to do, and of some the cause

@@ -1,4 +1,4 @@
-"""Where a whole script is refused (1 to 3): the place, the text there, and how to mend it."""
+"""Refusals of a whole script (1 to 3): the place, the text there, and how to mend it."""
 import re
 from collections.abc import Iterator
 from typing import NamedTuple, Optional
@@ -13,8 +13,8 @@ SPACES = '\u00a0\u1680\u2000-\u200a\u202f\u205f\u3000'
 
 
 class Oddity(NamedTuple):
-    """What is no token: a pattern at its place, the cause and what to do. {0} is what the pattern
-    finds and {1} its group."""
+    """A text that is no token: a pattern at its place, the cause and what to do. {0} is what the
+    pattern finds and {1} its group."""
     pattern: re.Pattern[str]
     cause: str
     mend: str
@@ -112,7 +112,8 @@ def not_utf8(path: str, script: bytes, refused: Refused) -> str:
 
 
 def first_place(text: str, offset: int) -> int:
-    """Where what is wrong begins: before the bad token, if it is due to an apostrophe."""
+    """The place at which the fault begins: before the bad token, if it is due to an
+    apostrophe."""
     if text[offset] != "'":
         return offset
     torn = torn_text(text)

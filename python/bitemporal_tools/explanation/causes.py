@@ -55,7 +55,7 @@ WHAT_TO_DO = {
     62: "Run the script again, and report it where it happens again.",
 }
 
-# What is to do in statements of one kind, if it differs.
+# Advice on statements of one kind, if it differs.
 CHANGED_DAYS = ("Leave it out. The days of a change are named by FOR PORTION OF, right after the"
                 " table's name, and the system columns are set by the clock alone.")
 IN_STATEMENTS = {
@@ -91,7 +91,7 @@ IN_STATEMENTS = {
 
 
 def what_to_do(code: int, tree: Optional[Tree], tables: Mapping[str, Table]) -> str:
-    """What is to do about a refusal of a statement over these tables."""
+    """Advice on a refusal of a statement over these tables."""
     what = IN_STATEMENTS.get((code, type(tree)), WHAT_TO_DO[code])
     if '{period}' in what and isinstance(tree, (Update, Delete, Stored)):
         return what.replace('{period}', tables[tree.table].period.name)

@@ -1,4 +1,4 @@
-"""Which rows 42 and 43 are about."""
+"""The rows that 42 and 43 are about."""
 import operator
 from collections.abc import Iterator
 
@@ -56,6 +56,6 @@ def unseen_cause(refusal: Refusal) -> str:
 
 
 def wanted(row: CurrentRow, table: Table, reference: Reference) -> str:
-    """What a parent of the row would have."""
+    """The values that a parent of the row would have."""
     return ' and '.join(f'{other} = {cell(row.values[table.place(own)])}'
                         for own, other in zip(reference.columns, reference.table_columns))

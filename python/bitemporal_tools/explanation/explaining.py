@@ -26,7 +26,7 @@ def statements_of(text: str) -> list[Statement]:
 
 
 class Explainer:
-    """What is said of a script, whose name is `path`."""
+    """The sentences on a script, whose name is `path`."""
 
     def __init__(self, path: str, text: str) -> None:
         self.path, self.text, self.places = path, text, Places(text)
@@ -108,7 +108,7 @@ def made_table(statement: Statement) -> Optional[str]:
 
 
 class Explanation:
-    """What is said of a script, given as bytes, and of its report: `texts` of what is refused, and
+    """The sentences on a script, given as bytes, and of its report: `texts` of what is refused, and
     `notes` on statements that are right. `statements` are those of the script, none if it is
     refused as a whole; `records` and `refusals` are those of the report. The script was run over
     the tables of a catalog. `NotOfScript` if the report isn't that of the script."""

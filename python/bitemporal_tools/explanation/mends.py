@@ -20,16 +20,16 @@ MOST_ROUNDS, MOST_SHOWN = 16, 400
 FURTHER = 3  # how many tokens more a mend that no slip names has to reach
 LIKE = 0.7  # how alike a word and a misspelled one are
 KINDS = {'number': '0', 'text': "'"}
-# What nobody leaves out by mistake, and names and values, which have a guess of their own.
+# Words that nobody leaves out by mistake, and names and values, which have a guess of their own.
 NO_GUESS = {A_NAME, A_NUMBER, A_TEXT, THE_END, 'NOT', '+', '-', '.', '<', '<=', '<>', '>', '>=',
             'CONTAINS', 'EQUALS', 'IMMEDIATELY', 'OVERLAPS', 'PRECEDES', 'SUCCEEDS'}
 CHANGES = ('UPDATE', 'DELETE')
-# What a guess may put into a change: it takes no condition away, and adds no row.
+# Words that a guess may put into a change: it takes no condition away, and adds no row.
 IN_CHANGES = {'FROM', 'SET', 'WHERE', 'FOR', 'PORTION', 'OF', 'TO', 'DATE'}
 
 
 class Edit(NamedTuple):
-    """What is put in the place of the tokens from `start` on and before `end`, and the sentence;
+    """The words in the place of the tokens from `start` on and before `end`, and the sentence;
     if `put` is None nothing is tried. If no slip names the edit, it has to reach as many
     tokens more."""
     start: int
@@ -59,7 +59,7 @@ class Mending:
         return self.parsed.stop or 0
 
     def where(self) -> Advice:
-        """What is expected at the stop, and what follows it."""
+        """The words that are expected at the stop, and those that are there."""
         before = f'after {shown(self.tokens[self.stop - 1].text)} ' if self.stop else ''
         found = shown(self.tokens[self.stop].text) if self.stop < len(self.tokens) else \
             'the end of the statement'
@@ -68,7 +68,7 @@ class Mending:
                       f'{before}expected {alternatives(expected)}, found {found}')
 
     def advice(self) -> Iterator[Advice]:
-        """What to do at each place in turn; last, if no mend is known, what is wrong there."""
+        """Advice on each place in turn; last, if no mend is known, what is wrong there."""
         while self.parsed.stop is not None:
             edit = self.apostrophe() or self.slip() or self.guess()
             if edit is None or self.rounds == MOST_ROUNDS:
@@ -84,7 +84,7 @@ class Mending:
             self.parsed = parsed(self.tokens)
 
     def with_edit(self, edit: Edit) -> tuple[list[Token], list[int]]:
-        """The tokens with an edit, and their offsets. New tokens are far from all old ones."""
+        """The tokens with an edit, and their offsets. New tokens are far from all others."""
         if edit.put == CUT:
             return self.tokens[:edit.start], self.offsets[:edit.start + 1]
         new = [token._replace(offset=token.offset + self.rounds * 10 ** 8)
@@ -95,7 +95,8 @@ class Mending:
         return tokens, offsets
 
     def reached(self, edit: Edit) -> tuple[bool, int]:
-        """How much is right with an edit: whether all of it, and how many tokens then are left."""
+        """The part that is right with an edit: whether all of it, and how many tokens then are
+        left."""
         if edit.put == CUT:
             found = parsed(self.tokens[:edit.start])
             is_right = found.tree is not None
@@ -119,7 +120,7 @@ class Mending:
     # Slips.
 
     def apostrophe(self) -> Optional[Edit]:
-        """Where a text ends in the middle of a word."""
+        """An end of a text in the middle of a word."""
         if 0 < self.stop < len(self.tokens):
             before, token = self.tokens[self.stop - 1:self.stop + 1]
             if before.kind == 'text' and token.kind in ('word', 'number') and \
@@ -169,7 +170,7 @@ class Mending:
         return first - (first > self.stop), last - (last > self.stop)
 
     def period(self) -> str:
-        """The period that the statement declares, or the one of its first table, or EP."""
+        """The period that the statement declares, or that of its first table, or EP."""
         for one, two, name in zip(self.tokens, self.tokens[1:], self.tokens[2:]):
             if (one.word, two.word) == ('PERIOD', 'FOR') and name.is_name:
                 return name.text
@@ -231,7 +232,7 @@ class Mending:
 
 
 def is_change(tokens: list[Token]) -> bool:
-    """Whether the tokens are of a statement that takes rows out or changes them."""
+    """Whether these are of a statement that takes rows out or makes others of them."""
     return tokens[0].word in CHANGES
 
 

@@ -1,4 +1,4 @@
-"""What is to be said of a statement that is right, and may say something else than was meant."""
+"""Notes on a statement that is right, and may say something else than was meant."""
 from collections.abc import Iterator
 from typing import Optional
 

@@ -105,7 +105,7 @@ def same_as_like(groups: dict[str, str], tables: dict[str, Table]) -> tuple[Opti
 
 
 def portion(groups: dict[str, str], tables: dict[str, Table]) -> tuple[None, str]:
-    """What names the days of a change in the place of a period predicate. Nothing is put."""
+    """Advice to name the days of a change in the place of a period predicate. Nothing is put."""
     found = re.fullmatch(r"(\w+) (?:CONTAINS DATE '(.*)'"
                          r"|OVERLAPS PERIOD ?\(DATE '(.*)', ?DATE '(.*)'\))", groups['out'])
     first, end = (found[2] or found[3], found[4] or day_after(found[2])) if found else (None, None)

@@ -21,7 +21,7 @@ from bitemporal_tools.sql.literals import FIRST_MOMENT, FOREVER
 from . import rewriting
 from .texts import recipe
 
-# What a call of rewriting.py gives: what is put, or a pair of this and of what is shown of it.
+# The result of a call of rewriting.py: what is put, or a pair of this and of what is shown of it.
 Rewriting = Callable[[dict[str, str], dict[str, Table]], Union[str, tuple[Optional[str], str]]]
 
 
@@ -175,7 +175,7 @@ DEFINITIONS = [
      "Write WITH SYSTEM VERSIONING after the last parenthesis of CREATE TABLE.", "WITH"),
 ]
 
-# What a mend of an UPDATE or a DELETE must not take for granted: nothing is put there.
+# No mend of an UPDATE or a DELETE may take these for granted: nothing is put there.
 ASKED = [
     (r"^DELETE @ HISTORY ", None,
      "Leave this statement out: what was recorded is kept, and no statement takes it away. (Without"

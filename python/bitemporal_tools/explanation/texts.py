@@ -15,7 +15,7 @@ def shown(text: str) -> str:
 
 
 def recipe(heading: str) -> str:
-    """Where a user finds how to do it: a heading of docs/HOWTO.md."""
+    """The recipe for a user: a heading of docs/HOWTO.md."""
     return f'"{heading}" in docs/HOWTO.md'
 
 

@@ -50,14 +50,16 @@ def whole_number(cell: str, scale: int = 0, decimal: str = '.') -> int:
     return number
 
 
-def plain_numbers(texts: Sequence[str], scale: int) -> Optional[list[int]]:
-    """The numbers of cells that are all of a few digits and nothing else; else None."""
+def are_digits(texts: Sequence[str], most: int) -> bool:
+    """Whether cells have digits and nothing else, each at least one and at most so many."""
     together = ''.join(texts)
-    if not (together.isascii() and together.isdigit() and '' not in texts
-            and max(map(len, texts)) + scale <= MOST_DIGITS):
-        return None
-    numbers = list(map(int, texts))
-    return [number * 10 ** scale for number in numbers] if scale else numbers
+    return together.isascii() and together.isdigit() and '' not in texts \
+        and max(map(len, texts)) <= most
+
+
+def begins_with_zero(texts: Sequence[str]) -> bool:
+    """Whether one of these cells of digits is a 0 and more digits behind it."""
+    return not {text for text in texts if text[0] == '0'} <= {'0'}
 
 
 def unit(scale: int) -> str:

@@ -3,14 +3,13 @@ late."""
 from __future__ import annotations
 
 import argparse
-import collections
 import datetime
 from collections.abc import Callable, Iterable, Iterator
 from typing import Optional
 
 from bitemporal_tools.loading.corrections import Fact, Values
 from bitemporal_tools.loading.csv_file import BadLine, CsvFile
-from bitemporal_tools.loading.fact_columns import DaysOfKey, FactColumns
+from bitemporal_tools.loading.fact_columns import DaysOfKeys, FactColumns
 from bitemporal_tools.loading.handovers import MOST_SAMPLED, GroupedRows, Lines
 
 DAY = datetime.timedelta(1)
@@ -44,18 +43,14 @@ class Clashes:
                f' which each line was recorded{named}'
 
 
-def ends_a_day_early(rows: Iterable[DaysOfKey]) -> int:
-    """The number of rows, each a key, a first day and an end, that end on the day before a row of
-    their key begins, if more do than on the day itself; else 0."""
-    rows = list(rows)
-    counts = collections.Counter([key for key, _, _ in rows])
-    if len(counts) == len(rows):
-        return 0
-    several = [row for row in rows if counts[row[0]] > 1]
-    starts = {(key, start) for key, start, _ in several}
-    meet = sum((key, end) in starts for key, _, end in several)
-    early = sum((key, end + DAY) in starts
-                for key, _, end in several if end < datetime.date.max)
+def ends_a_day_early(days: DaysOfKeys) -> int:
+    """The number of rows that end on the day before a row of their key begins, if more do than on
+    the day itself; else 0."""
+    keys, starts, ends = days
+    first_days = set(zip(keys, starts))
+    later = {end: end + DAY for end in set(ends) if end < datetime.date.max}
+    meet = sum(map(first_days.__contains__, zip(keys, ends)))
+    early = sum(map(first_days.__contains__, zip(keys, map(later.get, ends))))
     return early if early > meet else 0
 
 

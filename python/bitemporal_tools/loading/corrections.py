@@ -57,12 +57,10 @@ Clash = Callable[..., None]
 
 # A fact of a tuple of its fields, in a third of the time of a call of Fact.
 fact_of = cast(Callable[[object], Fact], functools.partial(tuple.__new__, Fact))
-# After all facts.
-NEVER = Fact(0, '', (), None, datetime.date.max, datetime.date.max)
 
 
 def with_days(fact: Fact, start: datetime.date, end: datetime.date) -> Fact:
-    """What a fact says, of other days."""
+    """A fact that says as much of other days."""
     line, moment, key, values, _, _, record, is_end = fact
     return fact_of((line, moment, key, values, start, end, record, is_end))
 
@@ -81,23 +79,31 @@ def overlaps(facts: Iterable[Fact]) -> Iterator[tuple[Fact, Fact]]:
             last = fact
 
 
-def override(facts: list[Fact], new: Fact, is_kept: bool = True) -> tuple[list[Fact], list[Fact]]:
-    """Takes the days of a new fact from facts that are sorted and apart, and adds it if it is to be
-    kept. Gives the facts that go, and those in their place."""
-    if not facts or facts[-1].end <= new.start:
-        facts += [new] * is_kept
-        return [], [new] * is_kept
+def touched_places(facts: list[Fact], new: Fact) -> tuple[int, int]:
+    """The places of the facts, sorted and apart, that share a day with a new one: that of the first
+    and that after the last; if there are none, twice that of the new one."""
+    if facts[-1].start <= new.start:  # as most often
+        return len(facts) - (facts[-1].end > new.start), len(facts)
     starts = [fact.start for fact in facts]
-    first = max(0, bisect.bisect_right(starts, new.start) - 1)
-    last = bisect.bisect_left(starts, new.end)
+    first = bisect.bisect_right(starts, new.start)
+    return first - (first > 0 and facts[first - 1].end > new.start), \
+        bisect.bisect_left(starts, new.end)
+
+
+def override(facts: list[Fact], new: Fact, is_kept: bool = True) -> list[Fact]:
+    """Takes the days of a new fact from facts that are sorted and apart, and adds it if it is to be
+    kept. Gives the facts that had some of these days."""
+    first, last = touched_places(facts, new) if facts else (0, 0)
     touched = facts[first:last]
-    kept = [with_days(fact, fact.start, min(fact.end, new.start))
-            for fact in touched if fact.start < new.start]
-    kept += [new] * is_kept
-    kept += [with_days(fact, max(fact.start, new.end), fact.end)
-             for fact in touched if fact.end > new.end]
+    kept = [new] if is_kept else []
+    if touched:
+        one, other = touched[0], touched[-1]
+        if one.start < new.start:
+            kept.insert(0, with_days(one, one.start, new.start))
+        if other.end > new.end:
+            kept.append(with_days(other, new.end, other.end))
     facts[first:last] = kept
-    return touched, kept
+    return touched
 
 
 class TableDays:
@@ -114,20 +120,15 @@ class TableDays:
         for key, of_key in said.items():
             facts = self.facts.get(key)
             if facts is None:
-                facts = self.facts[key] = []
-            if not facts or facts[-1].end <= of_key[0].start:
-                held = [fact for fact in of_key if fact.values is not None]
-                facts += held
-                new += held
+                self.facts[key] = [fact for fact in of_key if fact.values is not None]
+                new += self.facts[key]
                 continue
-            if len(of_key) == 1:
-                gone, come = override(facts, of_key[0], of_key[0].values is not None)
-            else:
-                before = list(facts)
-                for fact in of_key:
-                    override(facts, fact, fact.values is not None)
-                gone, come = unlike(before, facts)
-            add_changes(key, gone, come, changed, new)
+            for fact in of_key:
+                touched = override(facts, fact, fact.values is not None)
+                if touched:
+                    add_changes(key, touched, fact, changed, new)
+                elif fact.values is not None:
+                    new.append(fact)
         return changed, new
 
 
@@ -226,47 +227,25 @@ def uncovered(fact: Fact, others: Others) -> Iterator[Days]:
         yield start, fact.end
 
 
-def unlike(old: list[Fact], new: list[Fact]) -> tuple[list[Fact], list[Fact]]:
-    """Two lists of facts without what they have alike at their beginnings and their ends. Most are
-    the very same objects."""
-    first, last, most = 0, 0, min(len(old), len(new))
-    while first < most and old[first] is new[first]:
-        first += 1
-    while last < most - first and old[-1 - last] is new[-1 - last]:
-        last += 1
-    return old[first:len(old) - last], new[first:len(new) - last]
-
-
-def runs(old: list[Fact], new: list[Fact]) -> Iterator[
-        tuple[datetime.date, datetime.date, Optional[Fact], Optional[Fact]]]:
-    """The runs of days of two lists of facts, each sorted and apart, in turn: the first day, the
-    end, and the facts that the old list and the new one have on them."""
-    old, new = [*old, NEVER], [*new, NEVER]
-    day, place, new_place = datetime.date.min, 0, 0
-    while day < NEVER.start:
-        one, other = old[place], new[new_place]
-        day = max(day, min(one.start, other.start))
-        is_old, is_new = one.start <= day, other.start <= day
-        end = min(one.end if is_old else one.start, other.end if is_new else other.start)
-        if day < end:
-            yield day, end, one if is_old else None, other if is_new else None
-        day, place, new_place = end, place + (one.end == end), new_place + (other.end == end)
-
-
-def add_changes(key: Values, old: list[Fact], new: list[Fact], changed: list[Change],
+def add_changes(key: Values, old: Iterable[Fact], new: Fact, changed: list[Change],
                 added: list[Fact]) -> None:
-    """Adds the changes of a key's days from the old facts to the new ones: of days that exist,
-    and new ones."""
-    for start, end, one, other in runs(old, new):
-        if other is None:
+    """Adds the changes that a new fact makes of the facts that had some of its days, which are
+    sorted and apart: of days that exist, and new ones."""
+    values, day = new.values, new.start
+    for fact in old:
+        start, end = max(fact.start, day), min(fact.end, new.end)
+        if values is None:
             add_change(changed, Change('delete', key, start, end, (), ()))
-        elif one is None:
-            added.append(with_days(other, start, end))
-        elif one.values is not other.values:
-            before, values = one.values or (), other.values or ()
-            places = [place for place, (it, was) in enumerate(zip(values, before)) if it != was]
-            if places:
-                add_change(changed, Change('update', key, start, end, values, places))
+            continue
+        if day < start:
+            added.append(with_days(new, day, start))
+        places = [place for place, (it, was) in enumerate(zip(values, fact.values or ()))
+                  if it != was]
+        if places:
+            add_change(changed, Change('update', key, start, end, values, places))
+        day = end
+    if values is not None and day < new.end:
+        added.append(with_days(new, day, new.end))
 
 
 def add_change(changed: list[Change], new: Change) -> None:

@@ -50,22 +50,23 @@ class CsvFile:
             line = error.object[:error.start].count(b'\n') + 1
             raise Fault(f'{path}:{line}: no {encoding.replace("-sig", "")}: name the encoding, such'
                         ' as --encoding windows-1252', status=1) from None
-        if not self.read_plain(text.replace('\r\n', '\n'), delimiter):
+        if not self.read_plain(text.replace('\r\n', '\n') if '\r' in text else text, delimiter):
             self.read(text, delimiter)
         if not self.header:
             raise Fault(f'{path} is empty', status=1)
 
     def read_plain(self, text: str, delimiter: str) -> bool:
-        """Reads a text of lines with as many fields as the header has, if no field is in quotes and
-        no line is empty, in a third of the time. Gives whether it is such a text."""
+        """Reads a text of lines with as many fields as the header has, which are several, if none
+        is in quotes, in a third of the time. Gives whether it is such a text."""
         head, _, rest = text.partition('\n')
         rest = rest[:-1] if rest.endswith('\n') else rest
-        if not (head and rest) or any(sign in text for sign in ('"', '\r', '\0', '\n\n')) \
-                or rest[0] == '\n' or has_long_line(rest):
+        if not rest or delimiter not in head or any(sign in text for sign in '"\r\0') \
+                or has_long_line(rest):
             return False
         cells = rest.replace('\n', f'{delimiter}\n').split(delimiter)
         header = [name.strip() for name in head.split(delimiter)]
-        # A line begins with the first column if each such cell does, and no other.
+        # A line begins with the first column if each such cell does, and no other. So none of two
+        # fields or more is empty.
         first = ''.join(cells[::len(header)]).split('\n')
         if len(first) * len(header) != len(cells) or len(first) != rest.count('\n') + 1:
             return False

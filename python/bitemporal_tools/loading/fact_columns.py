@@ -15,13 +15,14 @@ from typing import Any, Callable, NamedTuple, Optional
 from bitemporal_tools.loading.corrections import Fact, fact_of
 from bitemporal_tools.sql.catalog import Table
 
-# A key, a first day and an end.
-DaysOfKey = tuple[Any, Any, Any]
+# The keys of rows, their first days and their ends.
+DaysOfKeys = tuple[Sequence[Hashable], Sequence[Any], Sequence[Any]]
 
 
 class FactColumns(NamedTuple):
-    """The fields of facts. `cells` has those of each value column of the table by its name, and
-    `written` the texts of columns of dates that are as literals have them."""
+    """The fields of facts. `cells` has those of each value column of the table by its name.
+    `written` has the texts of columns of dates and of numbers that are as literals have them, and
+    then the cells of a column of numbers are these texts."""
     table: Table
     lines: Sequence[int]
     moments: Sequence[Any]
@@ -35,18 +36,28 @@ class FactColumns(NamedTuple):
         """The value columns that are not in the key."""
         return [name for name in self.table.value_names if name not in self.table.key]
 
+    def values(self, name: str) -> Sequence[Any]:
+        """The values of a value column."""
+        is_text = name in self.written and any(
+            column.name == name and column.kind == 'INTEGER' for column in self.table.values)
+        return list(map(int, self.cells[name])) if is_text else self.cells[name]
+
     def keys(self) -> Sequence[Hashable]:
-        """The key of each row; the only value of a key of one column."""
+        """The cells of the key of each row; the only cell of a key of one column."""
         columns = [self.cells[name] for name in self.table.key]
         return columns[0] if len(columns) == 1 else list(zip(*columns))
 
     def facts(self, records: Iterator[tuple[str, ...]]) -> list[Fact]:
         """The facts, each a state of one of these records."""
-        rest = [self.cells[name] for name in self.others]
+        rest = [self.values(name) for name in self.others]
         return list(map(fact_of, zip(
-            self.lines, self.moments, zip(*(self.cells[name] for name in self.table.key)),
+            self.lines, self.moments, zip(*(self.values(name) for name in self.table.key)),
             zip(*rest) if rest else itertools.repeat(()), self.starts, self.ends, records,
             itertools.repeat(False))))
+
+    def days(self) -> DaysOfKeys:
+        """The key, the first day and the end of each row."""
+        return self.keys(), self.starts, self.ends
 
     def some(self, pick: Callable[[Sequence[Any]], Sequence[Any]]) -> FactColumns:
         """The rows that `pick` gives of each column."""
@@ -62,14 +73,24 @@ class FactColumns(NamedTuple):
         """The first rows, at most so many, or all."""
         return self.between(0, most)
 
-    def days(self) -> Sequence[DaysOfKey]:
-        """The key, the first day and the end of each row, if rows have the same key; else none."""
-        keys = self.keys()
-        return [] if len(set(keys)) == len(keys) else list(zip(keys, self.starts, self.ends))
+    def share_a_key(self) -> bool:
+        """Whether two rows do."""
+        return len(set(self.keys())) < len(self.lines)
 
     def share_a_day(self) -> bool:
         """Whether two rows of one key do."""
-        rows = sorted(self.days())
+        keys = self.keys()
+        last: dict[Hashable, Any] = {}
+        for key, days in zip(keys, zip(self.starts, self.ends)):
+            before = last.get(key)
+            if before and days[0] < before[1]:
+                if before[0] < days[1]:
+                    return True
+                break  # the rows of a key are in another order than their days
+            last[key] = days
+        else:
+            return False
+        rows = sorted(zip(keys, self.starts, self.ends))
         return any(key == other and end > start for (key, _, end), (other, start, _)
                    in zip(rows, itertools.islice(rows, 1, None)))
 
@@ -98,5 +119,5 @@ def in_columns(table: Table, facts: Sequence[Fact]) -> FactColumns:
 
 
 def column(rows: Sequence[Sequence[Any]], place: int) -> list[Any]:
-    """What each row has at a place."""
+    """The part of each row at a place."""
     return list(map(operator.itemgetter(place), rows))

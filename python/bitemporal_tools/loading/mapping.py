@@ -183,7 +183,8 @@ class Mapping:
     # Records as facts.
 
     def columns(self) -> FactColumns:
-        """What all records say, column by column. What is bad is reported to the file, and None."""
+        """The sayings of all records, column by column. A bad cell is reported to the file, and
+        None."""
         values = {str(column.name): self.values(column, self.removed_lines)
                   for column in self.table.values}
         starts, ends = self.starts(), self.ends()
@@ -252,20 +253,23 @@ class Mapping:
             self.file.bad += [BadLine(line, place, why[text])
                               for line, text in zip(self.file.lines, texts)
                               if text in why and line not in unread]
-        if all(text == str(value) for text, value in found.items()):
+        if not why and all(not isinstance(value, str) and text == str(value)
+                           for text, value in found.items()):
             self.written[name] = texts
         return list(map(found.__getitem__, texts))
 
     def values(self, column: Column, removed: Iterable[int]) -> Sequence[Optional[Value]]:
-        """The values of a column of the table. A line that takes days away needs those of the key
-        alone."""
+        """The values of a column of the table, or their texts if they are numbers that are as
+        literals have them. A line that takes days away needs those of the key alone."""
         scale, decimal = self.scales.get(column.name, 0), self.options.decimal
         place = self.places[column.name]
         texts = None if place is None else self.file.columns[place]
-        if column.kind == 'INTEGER' and texts:
-            numbers = cells.plain_numbers(texts, scale)
-            if numbers is not None:
-                return numbers
+        if column.kind == 'INTEGER' and texts and \
+                cells.are_digits(texts, cells.MOST_DIGITS - scale):
+            if scale or cells.begins_with_zero(texts):
+                return [int(text) * 10 ** scale for text in texts]
+            self.written[column.name] = texts
+            return texts
         if column.kind == 'VARCHAR' and texts and column.name not in self.empty and \
                 max(map(len, texts)) <= (column.number or 0):
             return texts
@@ -279,8 +283,9 @@ class Mapping:
                 return cells.date(text, self.dates, self.options.dates)
             return cells.whole_number(text, scale, decimal)
 
-        return self.column(column.name, place, read,
-                           () if column.name in self.table.key else removed)
+        values = self.column(column.name, place, read,
+                             () if column.name in self.table.key else removed)
+        return self.written.get(column.name, values) if column.kind == 'INTEGER' else values
 
     def later(self, day: datetime.date) -> datetime.date:
         try:

@@ -2,11 +2,9 @@
 8."""
 from __future__ import annotations
 
-import itertools
 from collections.abc import Iterable, Iterator, Sequence
 from typing import Any
 
-from bitemporal_tools.loading.cells import literal
 from bitemporal_tools.loading.corrections import Change, Fact
 from bitemporal_tools.loading.fact_columns import FactColumns, in_columns
 from bitemporal_tools.sql.catalog import Table
@@ -26,7 +24,17 @@ def size_of(text: str) -> int:
     return len(text) if text.isascii() else len(text.encode('utf-8'))
 
 
-def longest(column: Sequence[Any], kind: str) -> int:
+def written(column: Sequence[Any], kind: str) -> Sequence[str]:
+    """The texts of a column's values in the form of their kind."""
+    if kind == 'INTEGER':
+        return list(map(str, column))
+    if kind == 'DATE':
+        shown = {day: day.isoformat() for day in set(column)}
+        return list(map(shown.__getitem__, column))
+    return [text.replace("'", "''") for text in column] if "'" in ''.join(column) else column
+
+
+def longest(column: Sequence[str], kind: str) -> int:
     """A number of bytes that no value of a column has more of."""
     return FORMS[kind][2] or max(map(len, column)) * (
         1 if ''.join(column).isascii() else BYTES_OF_A_CHARACTER)
@@ -42,31 +50,21 @@ class RowWriter:
         self.tokens = TOKENS_OF_A_ROW + sum(1 + FORMS[kind][1] for _, kind in self.kinds)
         self.size = len(self.form) - 2 * len(self.kinds) + len(BETWEEN_ROWS)
 
-    def texts_of(self, columns: FactColumns) -> tuple[list[Sequence[Any]], list[int]]:
-        """The values of each column, which as texts are in the form of a row, and how many signs
-        are before the numbers of each row, if any are."""
+    def texts_of(self, columns: FactColumns) -> tuple[list[Sequence[str]], list[int]]:
+        """The texts of each column as they are in a row, and how many signs are before the numbers
+        of each row, if any are."""
         cells = {**columns.cells, **dict(zip(self.days, (columns.starts, columns.ends)))}
-        texts: list[Sequence[Any]] = []
+        texts: list[Sequence[str]] = []
         signs: list[int] = []
         for name, kind in self.kinds:
-            column = cells[name]
-            if kind == 'INTEGER':
-                if min(column) < 0:
-                    signs = [count + (number < 0)
-                             for count, number in zip(signs or [0] * len(column), column)]
-                texts.append(column)
-            elif kind == 'DATE' and name in columns.written:
-                texts.append(columns.written[name])
-            elif kind == 'DATE':
-                shown = {day: day.isoformat() for day in set(column)}
-                texts.append(list(map(shown.__getitem__, column)))
-            elif "'" in ''.join(column):
-                texts.append([text.replace("'", "''") for text in column])
-            else:
-                texts.append(column)
+            column = columns.written.get(name) or written(cells[name], kind)
+            if kind == 'INTEGER' and '-' in ''.join(column):
+                signs = [count + text.startswith('-')
+                         for count, text in zip(signs or [0] * len(column), column)]
+            texts.append(column)
         return texts, signs
 
-    def runs(self, texts: list[Sequence[Any]], signs: list[int]) -> Iterator[tuple[int, int]]:
+    def runs(self, texts: list[Sequence[str]], signs: list[int]) -> Iterator[tuple[int, int]]:
         """The first row and the end of each INSERT."""
         count = len(texts[0])
         most = (MOST_TOKENS - TOKENS_OF_A_HEAD) // self.tokens
@@ -78,7 +76,7 @@ class RowWriter:
         first, tokens, size = 0, TOKENS_OF_A_HEAD, 0
         for place, row in enumerate(zip(*texts)):
             need = self.tokens + (signs[place] if signs else 0)
-            bytes_ = self.size + sum(map(size_of, map(str, row)))
+            bytes_ = self.size + sum(map(size_of, row))
             if place > first and (tokens + need > MOST_TOKENS
                                   or size + bytes_ > MOST_BYTES_OF_AN_INSERT):
                 yield first, place
@@ -90,9 +88,15 @@ class RowWriter:
     def rows(self, columns: FactColumns) -> Iterator[str]:
         """The rows of each INSERT, as many as a statement may have."""
         texts, signs = self.texts_of(columns)
+        head, *between, tail = self.form.split('%s')
+        # The signs behind each text of a row, each after an empty place for that text.
+        behind = [sign for after in [*between, f'{tail}{BETWEEN_ROWS}{head}']
+                  for sign in ('', after)]
         for first, end in self.runs(texts, signs):
-            cells = itertools.chain.from_iterable(zip(*(text[first:end] for text in texts)))
-            yield BETWEEN_ROWS.join([self.form] * (end - first)) % tuple(cells)
+            parts = behind * (end - first)
+            for place, text in enumerate(texts):
+                parts[2 * place::len(behind)] = text[first:end]
+            yield f'{head}{"".join(parts[:-1])}{tail}'
 
 
 class StatementWriter:
@@ -106,16 +110,21 @@ class StatementWriter:
     def change(self, change: Change) -> str:
         """An UPDATE or a DELETE of a portion."""
         values = [change.values[place] for place in change.places]
-        return self.form(change.kind, tuple(change.places)).format(
-            *map(literal, (change.start, change.end, *values, *change.key)))
+        return self.form(change.kind, tuple(change.places)) % (
+            change.start, change.end,
+            *[value.replace("'", "''") if isinstance(value, str) else value
+              for value in (*values, *change.key)])
 
     def form(self, kind: str, places: tuple[int, ...]) -> str:
-        """What changes of one kind have alike, with {} in the places of their literals."""
+        """The text that changes of one kind have alike, with the forms of their values."""
         if (kind, places) not in self.forms:
             name, period = self.table.name, self.table.period.name
-            portion = f'{name} FOR PORTION OF {period} FROM {{}} TO {{}}\n '
-            sets = ', '.join(f'{self.others[place]} = {{}}' for place in places)
-            where = 'WHERE ' + ' AND '.join(f'{column} = {{}}' for column in self.table.key)
+            forms = {column.name: f'{column.name} = {FORMS[column.kind][0]}'
+                     for column in self.table.values}
+            day = FORMS['DATE'][0]
+            portion = f'{name} FOR PORTION OF {period} FROM {day} TO {day}\n '
+            sets = ', '.join(forms[self.others[place]] for place in places)
+            where = 'WHERE ' + ' AND '.join(forms[column] for column in self.table.key)
             self.forms[kind, places] = f'DELETE FROM {portion}{where}' if kind == 'delete' else \
                 f'UPDATE {portion}SET {sets} {where}'
         return self.forms[kind, places]

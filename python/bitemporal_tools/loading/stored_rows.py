@@ -4,10 +4,10 @@ from __future__ import annotations
 
 import contextlib
 import datetime
-from collections.abc import Collection, Iterable, Iterator
+from collections.abc import Collection, Iterable, Iterator, Sequence
 from typing import NamedTuple, Optional
 
-from bitemporal_tools.loading.corrections import Fact, TableDays, Value, Values, first_day
+from bitemporal_tools.loading.corrections import Fact, TableDays, Values, first_day
 from bitemporal_tools.loading.fact_columns import FactColumns
 from bitemporal_tools.sql.catalog import Table
 from bitemporal_tools.stores import reading, spelling
@@ -38,17 +38,21 @@ class StoredTable:
                              if place not in self.key_places]
         self.days: dict[int, datetime.date] = {}
 
-    def has_between(self, least: Value, greatest: Value) -> bool:
-        """Whether a version has a value from the least to the greatest in its first column."""
+    def has(self, condition: str = '', bounds: Sequence[bytes] = ()) -> bool:
+        """Whether a version of the table meets a condition with these values."""
         [(found,)] = self.store.connection.execute(
-            'SELECT EXISTS (SELECT 1 FROM bt_version WHERE tab = ? AND vals >= ? AND vals < ?)',
-            [self.number, spelling.bytes_of([least]), spelling.bytes_of([greatest]) + b'\xff'])
+            f'SELECT EXISTS (SELECT 1 FROM bt_version WHERE tab = ? {condition})',
+            [self.number, *bounds])
         return bool(found)
 
     def has_any(self, rows: FactColumns) -> bool:
-        """Whether there may be a version of one of the keys of rows, by the first column alone."""
-        column = rows.cells[self.table.key[0]]
-        return self.key_places[0] != 0 or self.has_between(min(column), max(column))
+        """Whether there may be a version of one of the keys of rows: of a table whose key is first,
+        one with a value from the least to the greatest of these in its first column."""
+        if self.key_places[0] != 0 or not self.has():
+            return self.has()
+        column = rows.values(self.table.key[0])
+        return self.has('AND vals >= ? AND vals < ?', [
+            spelling.bytes_of([min(column)]), spelling.bytes_of([max(column)]) + b'\xff'])
 
     def day(self, number: int) -> datetime.date:
         found = self.days.get(number)

@@ -103,5 +103,5 @@ class Canvas:
 
 
 def left_of(labels: Iterable[str], size: float = LABEL, least: float = 60) -> float:
-    """Where the lines begin, after labels at the left."""
+    """The place at which the lines begin, after labels at the left."""
     return EDGE + 14 + min(MOST_LABEL, max([least, *(room(words, size) for words in labels)]))

@@ -1,4 +1,4 @@
-"""What is drawn of statements, by pages, and pictures of them over one axis of days."""
+"""Drawings of statements, by pages, and pictures of them over one axis of days."""
 import argparse
 import dataclasses
 from collections.abc import Callable, Sequence
@@ -18,7 +18,7 @@ from bitemporal_tools.sql.tree import Sequenced, selects
 
 @dataclasses.dataclass
 class Drawing:
-    """What is drawn of a statement, by pages."""
+    """The drawing of a statement, by pages."""
     statement: Statement
     heading: str
     pages: list[list[Any]]
@@ -59,7 +59,7 @@ def pages_of(lines: list[Any], most: int) -> list[list[Any]]:
 
 
 def drawing_of(statement: Statement, how: argparse.Namespace) -> Drawing:
-    """What is drawn of a statement: totals, rows of an answer, or versions."""
+    """The drawing of a statement: totals, rows of an answer, or versions."""
     if how.count or how.sum:
         return totals_of(statement, how)
     outcome, heading = statement.outcome, heading_of(statement)

@@ -1,4 +1,4 @@
-"""How much room a text takes. Which font a browser has isn't known, so it is reckoned by a wide
+"""The room that a text takes. A browser's font isn't known, so the room is reckoned by a wide
 one."""
 import unicodedata
 

@@ -107,7 +107,7 @@ class Plane:
         self.left_out, self.moments = moments[:-most], moments[-most:]
         self.band = BAND if len(self.moments) <= MANY else LOW_BAND
         self.top, self.height = canvas.y, self.band * len(self.moments)
-        # They are drawn after all lines.
+        # Texts are drawn after all lines.
         self.texts: list[tuple[float, float, str, str, str]] = []
 
     def level(self, moment: str) -> float:

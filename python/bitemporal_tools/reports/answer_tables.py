@@ -13,7 +13,7 @@ LONGEST_NAME = 60
 
 
 class Called(Protocol):
-    """What has a number, a title and a name."""
+    """A thing that has a number, a title and a name."""
     number: int
     title: str
     name: str
@@ -39,8 +39,8 @@ def name_of(comment: Sequence[str]) -> str:
 
 
 def title_and_name(statement: Statement) -> tuple[str, str]:
-    """What a statement is called by the comment above it. The title is its first line, without
-    what names it; the name is what it says, or the number and the title."""
+    """The title and the name of a statement by the comment above it. The title is its first line,
+    without what names it; the name is what it says, or the number and the title."""
     named = next(filter(None, map(NAME.match, statement.comment)), None)
     titles = [line for line in statement.comment if not NAME.match(line)]
     title = titles[0] if titles else named[1] if named else ''
@@ -52,7 +52,7 @@ def title_and_name(statement: Statement) -> tuple[str, str]:
 
 @dataclasses.dataclass
 class Table:
-    """What a statement answered, or what is made of it. `kinds` are the types of the columns, as
+    """The answer of a statement, or what is made of it. `kinds` are the types of the columns, as
     far as they are known. `day` and `end` are the places of the columns with the first day of a row
     and its end; `scales` are the digits after the point of some places."""
     number: int

@@ -1,4 +1,4 @@
-"""What the tools that read a report with its script take alike."""
+"""The words that the tools which read a report with its script take alike."""
 import argparse
 import dataclasses
 import functools

@@ -23,7 +23,7 @@ from bitemporal_tools.sql.tree import (At, Create, Delete, Insert, Sequenced, St
 
 
 class Done(NamedTuple):
-    """What was done, and with how many rows, as far as that is reported."""
+    """A statement that was done, and with how many rows, as far as that is reported."""
     what: str
     rows: Optional[int]
 
@@ -89,7 +89,7 @@ def read(script_path: str, report_path: Optional[str], catalog: Catalog) -> list
 
 
 def beside(script_path: str, text: str, report: str, catalog: Catalog) -> list[Statement]:
-    """The same of the texts of both."""
+    """The statements of the texts of both."""
     try:
         tokens = list(pieces(lexed(text)))
         reader = Reader(report, len(tokens))
@@ -209,7 +209,7 @@ class Reader:
         return Done(what, None if is_cut else int(rows))
 
     def size(self, kind: str, number: int) -> tuple[int, int]:
-        """How many columns and rows the next record promises."""
+        """The numbers of columns and rows that the next record promises."""
         columns, rows = self.take(kind, number, 2)
         if not (is_count(columns) and is_count(rows)):
             self.at -= 1

@@ -13,7 +13,7 @@ from bitemporal_tools.stores.asking import ran
 
 
 def printed(name: str, *words: str) -> str:
-    """What the program prints after these words. A fault if it ends otherwise than by refusals
+    """The output of the program after these words. A fault if it ends otherwise than by refusals
     of statements."""
     with open(os.devnull, 'rb') as nothing:
         status, output, told = ran(name, list(words), nothing)

@@ -33,6 +33,6 @@ def for_spreadsheet(text: str) -> str:
 
 
 def width(text: str) -> int:
-    """How many columns of a terminal a text takes."""
+    """The number of columns of a terminal that a text takes."""
     return sum(0 if unicodedata.combining(letter)
                else 2 if unicodedata.east_asian_width(letter) in 'WF' else 1 for letter in text)

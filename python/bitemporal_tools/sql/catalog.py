@@ -40,7 +40,7 @@ class Catalog:
         return other
 
     def take(self, tree: Optional[Tree]) -> None:
-        """What a statement without faults makes of it."""
+        """The change that a statement without faults makes of it."""
         if isinstance(tree, At):
             self.clock = tree.moment.value
         elif isinstance(tree, Create):

@@ -1,4 +1,4 @@
-"""What is wrong with the names and values of AT, INSERT, UPDATE and DELETE."""
+"""Faults of the names and values of AT, INSERT, UPDATE and DELETE."""
 from collections.abc import Iterator
 
 from .catalog import Catalog, Table

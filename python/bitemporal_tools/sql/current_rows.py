@@ -129,7 +129,7 @@ class CurrentRows:
             return rows.of_key(tuple(equal[name] for name in rows.table.key))
         return rows.all()
 
-    # What clashes.
+    # Clashes.
 
     def clash(self, rows: Rows, keys: list[tuple[Value, ...]], gone: list[CurrentRow],
               new: list[CurrentRow]) -> Optional[Clash]:

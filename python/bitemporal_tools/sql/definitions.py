@@ -1,4 +1,4 @@
-"""What is wrong with a CREATE TABLE."""
+"""Faults of a CREATE TABLE."""
 from collections.abc import Iterator
 from typing import Optional
 

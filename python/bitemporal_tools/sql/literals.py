@@ -1,5 +1,4 @@
-"""Which texts are dates and moments, and which numbers fit into 64 bits with a sign."""
-import calendar
+"""Texts that are dates and moments, and numbers that fit into 64 bits with a sign."""
 import datetime
 import re
 from typing import Optional
@@ -11,8 +10,8 @@ FIRST_MOMENT, FOREVER = '0001-01-01 00:00:00', '9999-12-31 23:59:59.999999'
 LEAST_NUMBER, GREATEST_NUMBER = -2 ** 63, 2 ** 63 - 1
 DATE = re.compile('([0-9]{4})-([0-9]{2})-([0-9]{2})')
 CLOCK = re.compile(r'( (?:[01][0-9]|2[0-3]):[0-5][0-9]:[0-5][0-9])(?:\.([0-9]{1,6}))?')
-# What is nearly a moment: without the seconds, with another sign between its parts, with more
-# digits or a time zone after it.
+# A text that is nearly a moment: without the seconds, with another sign between its parts, with
+# more digits or a time zone after it.
 NEARLY = re.compile('([0-9-]{10}).([0-9]{2}:[0-9]{2})(?:(:[0-9]{2})(?:[.,]([0-9]{1,6}))?)?')
 
 
@@ -30,6 +29,7 @@ def why_no_date(text: str) -> str:
     found = re.fullmatch('([0-9]{4})-([0-9]{1,2})-([0-9]{1,2})', text)
     year, month, day = map(int, found.groups()) if found else (0, 0, 0)
     if year and 1 <= month <= 12:
+        import calendar  # few runs of a tool come here
         days = calendar.monthrange(year, month)[1]
         if not 1 <= day <= days:
             return f"'{text}' is no date: month {month} of {year:04} has {days} days."

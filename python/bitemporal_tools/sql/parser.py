@@ -11,9 +11,9 @@ from .tree import (Assignment, At, Column, Create, Delete, Insert, Key, Name, Pe
 
 
 class Parsed(NamedTuple):
-    """What a piece is: its tree, or None if the syntax is wrong; its faults; and of a piece that
-    is refused by 10 the place of the token that no statement can have there (the number of tokens
-    if the piece ends too early) and the list of what could be there."""
+    """A piece that is read: its tree, or None if the syntax is wrong; its faults; and of a piece
+    that is refused by 10 the place of the token that no statement can have there (the number of
+    tokens if the piece ends too early) and the list of what could be there."""
     tree: Optional[Tree]
     faults: list[Fault]
     stop: Optional[int]
@@ -160,7 +160,7 @@ def too_deep(tokens: list[Token]) -> Optional[Token]:
 
 
 def parsed(tokens: list[Token]) -> Parsed:
-    """What the piece with these tokens is."""
+    """The piece of these tokens, read."""
     if len(tokens) > MOST_TOKENS:
         fault = Fault(21, tokens[MOST_TOKENS].offset, f'The statement has {len(tokens):,} tokens,'
                                                       f' and {MOST_TOKENS:,} are the most.')

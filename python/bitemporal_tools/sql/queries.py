@@ -1,4 +1,4 @@
-"""What is wrong with the names, types and numbers of stored and of sequenced queries."""
+"""Faults of the names, types and numbers of stored and of sequenced queries."""
 from collections.abc import Iterator
 from typing import Optional
 
@@ -18,7 +18,7 @@ def faults_of_stored(stored: Stored, catalog: Catalog) -> Iterator[Fault]:
 
 
 def scope_of(select: Select, catalog: Catalog, first: int = 0, last: Optional[int] = None) -> Scope:
-    """What the references of a SELECT from number `first` on and before `last` show."""
+    """The scope of the references of a SELECT from number `first` on and before `last`."""
     return Scope([(known_as(reference), catalog.tables[reference.table])
                   for reference in select.references[first:last]])
 

@@ -16,7 +16,7 @@ MOST_CODE_POINTS, MOST_PRECISION = 1000, 12
 
 
 class Fault(NamedTuple):
-    """What is wrong with a statement: the number of the refusal, the offset of the token that it is
+    """A fault of a statement: the number of the refusal, the offset of the token that it is
     about (a character of the script, counted from 0), and a sentence that says it."""
     number: int
     offset: int
@@ -32,6 +32,6 @@ class Refused(Exception):
         self.number, self.byte, self.offset = number, byte, offset
 
     def __str__(self) -> str:
-        """What the program says of it, after its own name and a colon."""
+        """The program's words on the refusal, after its own name and a colon."""
         words = [self.number, NAMES[self.number], *([self.byte] if self.number == 3 else [])]
         return ' '.join(map(str, words))

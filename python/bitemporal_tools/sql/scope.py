@@ -1,5 +1,4 @@
 """The names and types of a condition or a select list: refusals 24, 25, 27, 30 and 41 there."""
-import difflib
 import re
 from collections.abc import Iterable, Iterator, Sequence
 from typing import Optional, TypeVar
@@ -24,6 +23,7 @@ def listed(names: Iterable[str]) -> str:
 
 def guess(name: str, known: Iterable[str]) -> str:
     """A question whether one of the known names is meant, or nothing."""
+    import difflib  # few runs of a tool come here
     close = difflib.get_close_matches(name, list(known), 1, 0.7)
     return f' Is {close[0]} meant?' if close else ''
 
@@ -61,7 +61,7 @@ def spelled(literal: Literal) -> str:
 
 
 def mend_of_type(kind: Optional[str], literal: Literal) -> str:
-    """How a literal might become one of another type."""
+    """A mend by which a literal might become one of another type."""
     if literal.kind == 'VARCHAR' and kind == 'DATE' and date_of(literal.value):
         return ' Write DATE before it.'
     if literal.kind == 'VARCHAR' and kind == 'INTEGER' and \

@@ -1,4 +1,4 @@
-"""What a statement is once it is read: named tuples.
+"""Statements once they are read: named tuples.
 
 A name is a `Name`, a str in upper case. What may be left out is None if it is. Each literal, and
 each name, knows the offset of its first character in the script.
@@ -22,7 +22,7 @@ class Name(str):
 
 
 class Literal(NamedTuple):
-    """Its kind is INTEGER, VARCHAR, DATE or TIMESTAMP; by it its value is an int, a str, a
+    """A literal's kind is INTEGER, VARCHAR, DATE or TIMESTAMP; by it its value is an int, a str, a
     datetime.date, or a moment's text as reports print it; or None if refusal 12, 13 or 14 is
     about it."""
     kind: str
@@ -124,7 +124,7 @@ class Not(NamedTuple):
 
 
 class Comparison(NamedTuple):
-    """Its offset is the sign's."""
+    """A comparison's offset is that of the sign."""
     left: Side
     sign: str
     right: Side
@@ -132,7 +132,7 @@ class Comparison(NamedTuple):
 
 
 class Predicate(NamedTuple):
-    """Its word may be two: IMMEDIATELY PRECEDES."""
+    """A predicate's word may be two: IMMEDIATELY PRECEDES."""
     span: Days
     word: str
     other: Days
@@ -163,7 +163,7 @@ Change = Union[Update, Delete]
 
 
 class Window(NamedTuple):
-    """Its kind is AS OF, FROM or BETWEEN; AS OF has no end. Both are TIMESTAMP literals."""
+    """A window's kind is AS OF, FROM or BETWEEN; AS OF has no end. Both are TIMESTAMP literals."""
     kind: str
     start: Literal
     end: Optional[Literal]
@@ -194,7 +194,7 @@ class On(NamedTuple):
 
 
 class Select(NamedTuple):
-    """`references` are the references of all chains in turn; `ons` has the ON of each join."""
+    """`references` are those of all chains in turn; `ons` has the ON of each join."""
     items: list[Item]
     references: list[TableReference]
     ons: list[On]
@@ -203,7 +203,7 @@ class Select(NamedTuple):
 
 
 class Operand(NamedTuple):
-    """Its operator is UNION, EXCEPT or INTERSECT."""
+    """An operand's operator is UNION, EXCEPT or INTERSECT."""
     operator: str
     query: 'Query'
     offset: int
@@ -238,7 +238,7 @@ def selects(query: Query) -> list[Select]:
 
 
 def set_operators(query: Query) -> int:
-    """How many set operators a query has."""
+    """The number of set operators of a query."""
     if isinstance(query, Select):
         return 0
     return set_operators(query.first) + sum(1 + set_operators(operand.query)

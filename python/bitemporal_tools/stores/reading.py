@@ -15,7 +15,6 @@ from collections.abc import Iterator
 from typing import BinaryIO, NamedTuple
 
 from bitemporal_tools.command_line import Fault
-from bitemporal_tools.stores import asking
 from bitemporal_tools.stores.spelling import FOREVER, MICROSECONDS, BadBytes
 from bitemporal_tools.stores.tables import Table, table_of
 
@@ -168,6 +167,7 @@ def copied(path: str, file: BinaryIO, folder: str) -> str:
         shutil.copyfile(f'{path}-wal', f'{copy}-wal')
     except OSError as error:
         raise Fault(f'cannot copy {path} and its log: {error.strerror}') from None
+    from bitemporal_tools.stores import asking  # few runs of a tool come here
     why = asking.refusal_to_open(copy)
     if why:
         raise Fault(f'{path} with {path}-wal beside it is refused: {why}')

@@ -1,6 +1,6 @@
 """The definition of a table: as the bytes of a store, and as CREATE TABLE."""
-import dataclasses
 from collections.abc import Sequence
+from typing import NamedTuple
 
 from bitemporal_tools.stores import spelling
 from bitemporal_tools.stores.spelling import BadBytes, Value, bytes_of
@@ -10,8 +10,7 @@ NO_PRECISION = -1
 NAMES = {INTEGER: 'INTEGER', VARCHAR: 'VARCHAR', DATE: 'DATE'}
 
 
-@dataclasses.dataclass(frozen=True)
-class Column:
+class Column(NamedTuple):
     """`number` is the n of VARCHAR(n); of a system column the p of TIMESTAMP(p), or -1 if none
     was written; else 0."""
     name: str
@@ -31,8 +30,7 @@ class Column:
         return f'VARCHAR({self.number})' if self.kind == VARCHAR else NAMES[self.kind]
 
 
-@dataclasses.dataclass(frozen=True)
-class Reference:
+class Reference(NamedTuple):
     """The columns of a table, and in the same order those of its parent to which they refer."""
     parent: str
     columns: tuple[str, ...]
@@ -42,8 +40,7 @@ class Reference:
         return f'{",".join(self.columns)}={self.parent}.{",".join(self.parent_columns)}'
 
 
-@dataclasses.dataclass(frozen=True)
-class Table:
+class Table(NamedTuple):
     """A table by the names of its parts. The columns are in the order of CREATE TABLE."""
     name: str
     columns: tuple[Column, ...]
