@@ -289,6 +289,8 @@ class Model:
         self.statements = 0
         self.report = ''
         self.status = 0
+        # The statements that replace versions of their very moment, each with how many.
+        self.replaced = []
 
     def check(self):
         """The model against itself: as of each moment the versions are the rows of each day."""
@@ -493,7 +495,7 @@ class Model:
             return tuple(new for row in rows for new in
                          (made(row) if scope.holds(statement.where, [row]) else [row]))
 
-        count, versions, added = 0, [], []
+        count, replaced, versions, added = 0, 0, [], []
         for version in table.versions:
             values, start, end, since, until = version
             if (until != FOREVER or not start < stop or not begin < end
@@ -501,16 +503,18 @@ class Model:
                 versions.append(version)
                 continue
             count += 1
-            if since != self.clock:  # else it would end as it begins, and isn't kept
+            if since != self.clock:
                 versions.append([values, start, end, since, self.clock])
+            else:  # it would end as it begins, and isn't kept
+                replaced += 1
             pieces = [(values, start, begin), (values, stop, end)]
             pieces += [(new, max(start, begin), min(end, stop)) for new in made(values)]
             added += [[new, first, last, self.clock, FOREVER]
                       for new, first, last in pieces if first < last]
         self.change(table, changed_days(table.days, (begin, stop), after), versions + added, word,
-                    count)
+                    count, replaced)
 
-    def change(self, table, days, versions, word, count):
+    def change(self, table, days, versions, word, count, replaced=0):
         """Makes a change, unless a key or a reference would be broken after it."""
         fault = self.fault_after(table, days, versions)
         if fault:
@@ -518,6 +522,8 @@ class Model:
             return
         table.kept(days, versions, self.clock)
         self.record('done', word, count)
+        if replaced:
+            self.replaced.append((self.statements, replaced))
 
     def fault_after(self, table, days, versions):
         if not self.keys:  # then a store has one version alone of values, first day and beginning

@@ -9,6 +9,17 @@ has them, and then a last line such as
 
 Answers are of sequenced and of stored queries. Without --audit nothing is said of audits.
 
+Before it are lines about the moments at which changes are recorded:
+
+    statement 3: no AT stands before this change, so it is recorded at 0001-01-01 00:00:00
+                   of the first UPDATE or DELETE; with --store of an INSERT too, if the clock of the
+                   store is there, and not with --now
+    statement 3: versions of this very moment that were replaced and are not kept: 1
+                   of the first UPDATE or DELETE that ends versions at the moment at which they
+                   began; and then how many that were in all. With --store the program itself says
+                   this. Else, if a change may have done so, `bitemporal_file` runs the script once
+                   more, over a store that is thrown away
+
     --stop         ends at the first refused statement: no statement after it is in the report, or
                    does anything
     --store STORE  runs the script by `bitemporal_file` over the store in the file STORE
@@ -21,6 +32,7 @@ audit did not agree. It is 2 too if FILE cannot be read; a line says which and w
 import argparse
 import io
 import os
+import pathlib
 import subprocess
 import sys
 import tempfile
@@ -30,11 +42,16 @@ from typing import Optional
 from bitemporal_tools import command_line, program
 from bitemporal_tools.command_line import Fault, counted
 from bitemporal_tools.explanation.explaining import Explanation
+from bitemporal_tools.explanation.moments import WITHOUT_AT, first_without_at, may_replace
 from bitemporal_tools.reports.listing import catalog_of
 from bitemporal_tools.reports.records import records
 from bitemporal_tools.reports.report import NotOfScript
 from bitemporal_tools.sql.catalog import Catalog
 from bitemporal_tools.sql.lexis import decoded, lexed, pieces
+from bitemporal_tools.stores.asking import scratch
+
+# How many times the bytes of a script the store that it leaves may have.
+GROWTH = 4
 
 
 def printed(called: str, words: Sequence[str], given: bytes) -> tuple[int, bytes]:
@@ -59,6 +76,21 @@ def tables_of(store: str) -> Catalog:
     return catalog_of(listed.decode('utf-8'))
 
 
+def told_of_replaced(script: bytes) -> list[str]:
+    """What `bitemporal_file` says of the versions that a script's changes replaced, over a store
+    that is thrown away."""
+    with scratch(GROWTH * len(script)) as folder:
+        file = pathlib.Path(folder, 'script.sql')
+        file.write_bytes(script)
+        run = subprocess.run(['bitemporal_file', os.path.join(folder, 'store'), file],
+                             executable=program.path('bitemporal_file'), check=False,
+                             stdout=subprocess.DEVNULL, stderr=subprocess.PIPE)
+    lines = [line.partition(': ')[2] for line in run.stderr.decode('utf-8').splitlines()]
+    if run.returncode not in (0, 1):
+        lines[-1:] = [f'how many versions changes replaced is not known: {lines[-1]}']
+    return [f'bitemporal: {line}' for line in lines]
+
+
 class Run:
     """A script, given as bytes, with its report. `count` is how many statements it has; those that
     were not run for the sake of --stop are cut off."""
@@ -66,6 +98,7 @@ class Run:
     def __init__(self, name: str, script: bytes, options: argparse.Namespace,
                  words: Sequence[str]) -> None:
         self.name, self.script = name, script
+        self.is_stored, self.is_timed = bool(options.store), '--now' in words
         self.count: Optional[int] = None
         self.catalog = tables_of(options.store) if options.store else Catalog()
         if options.store:
@@ -91,6 +124,15 @@ class Run:
 
     def explanation(self) -> Explanation:
         return Explanation(self.name, self.script, self.report.decode('utf-8'), self.catalog)
+
+    def told_of_moments(self, explanation: Explanation) -> list[str]:
+        """The lines about the moments at which changes are recorded."""
+        number = None if self.is_timed else first_without_at(explanation.accepted, self.catalog,
+                                                             self.is_stored)
+        told = [f'bitemporal: statement {number}: {WITHOUT_AT}'] if number else []
+        if not self.is_stored and may_replace(explanation.accepted, self.catalog):
+            told += told_of_replaced(self.script)
+        return told
 
     def stop(self, number: int) -> None:
         """Runs the statements up to this number alone, of a run without a store."""
@@ -151,6 +193,7 @@ def main(arguments: Sequence[str]) -> int:
             run.stop(explanation.refusals[0].statement.number)
             explanation = run.explanation()
         said = [*(f'{text}\n' for text in explanation.texts + explanation.notes),
+                *run.told_of_moments(explanation),
                 last_line(explanation, run.count or len(explanation.statements))]
     except NotOfScript:  # memory was refused outside the statements, or the command line is wrong
         said = ['bitemporal: there is no whole report']

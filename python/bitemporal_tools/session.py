@@ -6,7 +6,8 @@
 end with a semicolon, and each is run when its line is sent; what has none at the end is not run. An
 answer is shown as a table, and a statement that is refused as tools/explain has it: the cause and
 what to do. Changes are recorded at the system's time, as bitemporal_file has it with --now; with
---script-clock at the moment of the last AT.
+--script-clock at the moment of the last AT. A change before any AT of the session or of the store
+is noted then, once.
 
     \\?       shows this help
     .help    lists the commands of the program, whose lines begin with a dot
@@ -35,6 +36,7 @@ except ImportError:
 from bitemporal_tools import command_line, program
 from bitemporal_tools.explanation import bad_tokens
 from bitemporal_tools.explanation.explaining import Explainer
+from bitemporal_tools.explanation.moments import WITHOUT_AT
 from bitemporal_tools.explanation.report import Refusal
 from bitemporal_tools.reports.answer_tables import Table
 from bitemporal_tools.reports.answer_texts import as_table
@@ -42,6 +44,7 @@ from bitemporal_tools.command_line import counted
 from bitemporal_tools.reports.listing import catalog_of
 from bitemporal_tools.reports.records import records
 from bitemporal_tools.sql.catalog import Catalog
+from bitemporal_tools.sql.literals import FIRST_MOMENT
 from bitemporal_tools.sql.lexis import decoded, lexed, pieces
 from bitemporal_tools.sql.parts import parts_of
 from bitemporal_tools.sql.refusals import Refused
@@ -90,6 +93,8 @@ class Session:
         self.audits, self.stops = '--audit' in words, '--stop' in words
         self.is_timed = '--now' in words
         self.is_warned = False
+        # Whether a change may be recorded at the first moment of all, and nothing was said of it.
+        self.is_unsaid = not self.is_timed
 
     def next_record(self) -> list[str]:
         """The next record of the report. EOFError if the program has ended."""
@@ -160,10 +165,27 @@ class Session:
             print(f'done: {what}' + ('' if what in ('at', 'create') else
                                      f', {counted(int(count), "row")}'))
             self.catalog.take(statement.tree if statement else None)
+            self.note(what)
         else:
             self.show_answer(number, int(fields[1]))
             if self.audits and kind == 'answer':
                 print('audit: ' + ' '.join(self.next_record()[2:]).rstrip())
+
+    def note(self, what: str) -> None:
+        """Notes the first change that is recorded at the first moment of all, since no AT stands
+        before it."""
+        if self.is_unsaid and what != 'create':
+            self.is_unsaid = False
+            if what != 'at' and self.clock() == FIRST_MOMENT:
+                print(f'note: {WITHOUT_AT}')
+
+    def clock(self) -> str:
+        """The clock's moment, as the program says it between two statements."""
+        moment = ''
+        self.send(b'\n.clock\n')
+        while (record := self.next_record())[0] != 'command':
+            moment = record[1]
+        return moment
 
     def show_answer(self, number: str, count: int) -> None:
         columns = self.next_record()[2:]

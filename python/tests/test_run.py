@@ -28,6 +28,20 @@ refused,5,40,MomentBack,
 versions,6,6,0
 columns,6,ENO,CENTS,S,E,SS,SE
 """
+# Two rows, of which the second is changed twice.
+TWO = support.create_table('T', 'K INTEGER, V INTEGER', 'K') + """;
+INSERT INTO T VALUES (1, 7, DATE '2024-01-01', DATE '2024-02-01'),
+ (2, 7, DATE '2024-01-01', DATE '2024-02-01');
+{}UPDATE T SET V = 8 WHERE K = 2;
+{}DELETE FROM T;
+"""
+AT = ["AT TIMESTAMP '2024-03-01 00:00:00';\n", "AT TIMESTAMP '2024-04-01 00:00:00';\n"]
+WITHOUT_AT = ('bitemporal: statement {}: no AT stands before this change, so it is recorded at'
+              ' 0001-01-01 00:00:00\n')
+REPLACED = ('{0}: statement {1}: versions of this very moment that were replaced and are not kept:'
+            ' {2}\n{0}: versions replaced at the moment of their recording, and not kept: {3}'
+            ' (an AT between the changes keeps them)\n')
+COUNTS = 'bitemporal: {} statements, {} refused, 0 answers\n'
 WRONG_CAUSES = [
     'Cause: On 2024-01-01 two rows of PAY would have one key. SELECT * FROM PAY WHERE PP CONTAINS',
     'Cause at 3:36: There is no table PAYS. The only table is PAY. Is PAY meant?',
@@ -122,6 +136,49 @@ class Run(Case):
         self.equal('--store that is none', run(['--store', self.folder], b''),
                    (2, b'', b'bitemporal_file: cannot open the store\n'))
         self.of_lists(store)
+
+    def test_moments(self) -> None:
+        """A change before any AT, and versions that are replaced at their moment, in memory."""
+        def told(script: str, *words: str) -> str:
+            return run(words, script.encode())[2].decode()
+
+        none = COUNTS.format(2, 0)
+        self.equal('an INSERT alone', told(TWO.partition('{}')[0]), none)
+        self.equal('changes at one moment', told(TWO.format('', '')),
+                   WITHOUT_AT.format(3) + REPLACED.format('bitemporal', 3, 1, 3)
+                   + COUNTS.format(4, 0))
+        self.equal('an AT between', told(TWO.format(AT[0], AT[1])), COUNTS.format(6, 0))
+        self.equal('an AT before both', told(TWO.format(AT[0], '')),
+                   REPLACED.format('bitemporal', 5, 1, 1) + COUNTS.format(5, 0))
+        self.equal('none is touched', told(TWO.format('', AT[0]).replace('K = 2', 'K = 3')),
+                   WITHOUT_AT.format(3) + COUNTS.format(5, 0))
+        refused = TWO.format('SELECT 1;' + AT[0], 'SELECT 2;')
+        self.equal('--stop', told(refused, '--stop').split('\n\n')[-1],
+                   'bitemporal: 3 of 7 statements, 1 refused, 0 answers\n')
+        self.equal('refused ones', told(refused).split('\n\n')[-1],
+                   REPLACED.format('bitemporal', 7, 1, 1) + COUNTS.format(7, 2))
+        self.equal('an audited run', told(TWO.format('', ''), '--audit'),
+                   told(TWO.format('', '')))
+
+    def test_moments_of_stores(self) -> None:
+        """The same over a store, in the words of the program."""
+        def told(store: str, script: str, *words: str) -> str:
+            return run(['--store', self.folder / store, *words], script.encode())[2].decode()
+
+        first, rest = TWO.format('', '').split(';\n', 1)
+        self.equal('a table alone', told('a', first),
+                   'bitemporal: 1 statement, 0 refused, 0 answers\n')
+        replaced = REPLACED.format('bitemporal_file', 2, 1, 3)
+        self.equal('an INSERT before any AT', told('a', rest),
+                   replaced + WITHOUT_AT.format(1) + COUNTS.format(3, 0))
+        self.equal('with --now', told('b', TWO.format('', ''), '--now'), COUNTS.format(4, 0))
+        self.equal('and then without', told('b', rest), replaced + COUNTS.format(3, 0))
+        self.equal('an AT first', told('a', AT[0] + rest),
+                   replaced.replace('2:', '3:') + COUNTS.format(4, 0))
+        self.equal('an AT of the run before', told('a', rest), replaced + COUNTS.format(3, 0))
+        self.equal('a refused INSERT', told('c', first + ';' + rest.replace('1, 7,', '2, 7,', 1)
+                                            ).split('\n\n')[-1],
+                   WITHOUT_AT.format(3) + COUNTS.format(4, 1))
 
     def of_lists(self, store: pathlib.Path) -> None:
         """--tables: the same for the tools that read a report."""

@@ -176,6 +176,33 @@ class SessionOfAStore(Case):
         terminal.send('\\q\n')
         self.equal('its status', terminal.status(), 0)
 
+    def test_moments(self) -> None:
+        """With --script-clock a change before any AT is noted, once."""
+        note = ('note: no AT stands before this change, so it is recorded at 0001-01-01 00:00:00\n')
+        store, at = str(self.folder / 'e.store'), "AT TIMESTAMP '2024-01-01 00:00:00';\n"
+        other = INSERT.replace('101', '102')
+        for name, words, lines, said in (
+                ('one', ['--script-clock'], [CREATE, INSERT, other], [False, True, False]),
+                ('a store of before', ['--script-clock'], [SELECT, INSERT.replace('101', '103')],
+                 [False, True]),
+                ('an AT', ['--script-clock'], [at, INSERT.replace('101', '104')], [False, False]),
+                ('a clock of before', ['--script-clock'], [INSERT.replace('101', '105')], [False]),
+                ('--now', ['--now'], [INSERT.replace('101', '106')], [False])):
+            terminal = start(store, *words)
+            found = [note in terminal.ask(line) for line in lines]
+            self.equal(name, found, said)
+            terminal.send('\\q\n')
+            self.equal(f'{name}: the status', terminal.status(), 0)
+        terminal = start(str(self.folder / 'f.store'), '--script-clock')
+        terminal.ask(CREATE)
+        terminal.ask(INSERT)
+        told = terminal.ask('DELETE FROM PAY;\n')
+        terminal.send('\\q\n')
+        self.equal('the status', terminal.status(), 0)
+        told += terminal.shown
+        self.holds('what is replaced is told', 'statement 3: versions of this very moment that were'
+                   ' replaced and are not kept: 1\n' in told, told)
+
     def test_keys(self) -> None:
         """Ctrl-C and Ctrl-D."""
         terminal = start(str(self.folder / 'b.store'))

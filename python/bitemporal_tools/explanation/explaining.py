@@ -110,11 +110,13 @@ def made_table(statement: Statement) -> Optional[str]:
 class Explanation:
     """The sentences on a script, given as bytes, and of its report: `texts` of what is refused, and
     `notes` on statements that are right. `statements` are those of the script, none if it is
-    refused as a whole; `records` and `refusals` are those of the report. The script was run over
-    the tables of a catalog. `NotOfScript` if the report isn't that of the script."""
+    refused as a whole, and `accepted` those that are not refused; `records` and `refusals` are
+    those of the report. The script was run over the tables of a catalog. `NotOfScript` if the
+    report isn't that of the script."""
 
     def __init__(self, path: str, script: bytes, report: str, catalog: Catalog) -> None:
         self.statements: list[Statement] = []
+        self.accepted: list[Statement] = []
         self.records: list[list[str]] = []
         self.refusals: list[Refusal] = []
         self.notes: list[str] = []
@@ -133,7 +135,8 @@ class Explanation:
         explainer = Explainer(path, text)
         self.texts = [explainer.explained(refusal) for refusal in self.refusals]
         numbers, catalog = {refusal.statement.number for refusal in self.refusals}, catalog.copy()
-        for statement in self.statements:
-            if statement.number not in numbers and not statement.faults:
-                self.notes += explainer.noted(statement, catalog.tables)
-                catalog.take(statement.tree)
+        self.accepted = [statement for statement in self.statements
+                         if statement.number not in numbers and not statement.faults]
+        for statement in self.accepted:
+            self.notes += explainer.noted(statement, catalog.tables)
+            catalog.take(statement.tree)
