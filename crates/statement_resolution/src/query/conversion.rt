@@ -16,7 +16,7 @@ ghost use Rattle.catalog_core.specs.query.Selection.{item_parts};
 use crate::comparison::ColumnNames;
 use crate::faults::Faults;
 use crate::query::scope::Scope;
-use crate::resolver::{condition_faults, resolve_condition};
+use crate::resolver::resolve_condition;
 use crate::system_window::window_of;
 use catalog_core::resolved::QueryReference;
 use catalog_core::{
@@ -62,11 +62,10 @@ pub fn push_members(
         (judged.condition_faults scope.now.seen.now (plain_condition condition.now))) }
 {
     let (first, others) = outer_and(condition);
-    conjuncts.push(resolve_condition(alloc, scope, first)?)?;
+    conjuncts.push(resolve_condition(alloc, scope, first, faults)?)?;
     for part in others {
-        conjuncts.push(resolve_condition(alloc, scope, part)?)?;
+        conjuncts.push(resolve_condition(alloc, scope, part, faults)?)?;
     }
-    *faults = faults.or(condition_faults(scope, condition));
     Ok(())
 }
 
