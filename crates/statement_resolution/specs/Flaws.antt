@@ -16,7 +16,7 @@ use Rattle.sql_statements.specs.declared.statement.StoredTest.{StoredTest}
 use Rattle.sql_statements.specs.declared.statement.StoredTest.TheVariants.{Values, Periods}
 use Rattle.sql_statements.specs.declared.statement.StoredTest.TheVariants.{ContainsDay}
 use Rattle.catalog_core.specs.Conditions.{tests_of}
-use Rattle.statement_resolution.specs.Faults.{no_faults}
+use Rattle.statement_resolution.specs.Faults.{no_faults, where_faults}
 use Rattle.statement_resolution.specs.change.Insertion.{is_of_other_kind, is_too_long}
 use Rattle.statement_resolution.specs.query.Faults as judged
 use Rattle.statement_resolution.specs.query.Faults.{are_matching, are_of_period}
@@ -149,3 +149,8 @@ faults_of has = record no_faults {
   long = has TooLong;
   empty = has Empty;
 }
+
+-- the faults of a WHERE of an UPDATE or a DELETE
+abbrev pub own_where_faults : TableDef → Option (Condition Compare) → Faults
+own_where_faults t condition =
+    where_faults (λ (c : Compare). faults_of (λ flaw. is_flawed_compare flaw t c)) condition

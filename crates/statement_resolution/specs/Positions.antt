@@ -57,18 +57,19 @@ abbrev pub resolved_assignment : TableDef → written.Assignment → Option Assi
 resolved_assignment t a =
     option_map (λ n. record { position = n; value = a.value }) (value_position t a.column)
 
--- a condition with positions: each test is the one that stands for it
-abbrev pub ResolvesTests
-    : {T R : Type 0} → (T → Option R) → Condition T → Tree R → Type 0
-ResolvesTests numbered c resolved =
-    map_condition numbered c ≡ map_condition (λ leaf. Some leaf) (plain_condition resolved)
+-- a WHERE and another: both are absent, or each test is the one that stands for it
+abbrev pub ReplacesWhere
+    : {T S R : Type 0} → (T → R) → (S → R) → Option (Condition T) → Option (Tree S) → Type 0
+ReplacesWhere f g None None = Unit {0}
+ReplacesWhere f g (Some c) (Some other) =
+    map_condition f c ≡ map_condition g (plain_condition other)
+ReplacesWhere f g _ _ = ⊥
 
--- a WHERE with positions: both are absent, or each stands for the other
+-- a WHERE with positions
 abbrev pub ResolvesWhere
     : {T R : Type 0} → (T → Option R) → Option (Condition T) → Option (Tree R) → Type 0
-ResolvesWhere numbered None None = Unit {0}
-ResolvesWhere numbered (Some c) (Some resolved) = ResolvesTests numbered c resolved
-ResolvesWhere numbered _ _ = ⊥
+ResolvesWhere numbered condition resolved =
+    ReplacesWhere numbered (λ leaf. Some leaf) condition resolved
 
 -- the days of a portion, whose period is the table's
 abbrev pub portion_days : Option Portion → Option (ℤ × ℤ)

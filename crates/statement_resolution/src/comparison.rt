@@ -156,11 +156,14 @@ impl Resolver<Compare> for TableDef {
 
     ghost parts = { λ numbered. Some numbered };
 
-    fn test_faults(&self, test: &Compare) -> Faults {
-        compare_faults(self, test)
-    }
-
-    fn resolve_test(&self, alloc: Global, test: &Compare) -> Result<CompareValues, Memory> {
-        resolve_comparison(alloc, self, test)
+    fn resolve_test(
+        &self,
+        alloc: Global,
+        test: &Compare,
+        found: &mut Faults,
+    ) -> Result<CompareValues, Memory> {
+        let numbered = resolve_comparison(alloc, self, test)?;
+        *found = found.or(compare_faults(self, test));
+        Ok(numbered)
     }
 }

@@ -8,9 +8,8 @@
 //! - a refusal of a statement: the list of its conditions (`insert_conditions`,
 //!   `update_conditions`, `delete_conditions`, `refusals_of`, `stored_query_conditions`), and the
 //!   function that judges them (`shape_fault`, `value_fault`, `update_fault`, `delete_fault`,
-//!   `Faults::first`, `stored_fault`), both in ascending order; what may be wrong with a part of a
-//!   query, an UPDATE or a DELETE is one of `Faults`; the refusals of CREATE TABLE are in
-//!   `catalog_core`;
+//!   `Faults::first`), both in ascending order; what may be wrong with a part of a query, an UPDATE
+//!   or a DELETE is one of `Faults`; the refusals of CREATE TABLE are in `catalog_core`;
 //! - a test of a condition: its faults and its positions in its `Resolver` (`comparison.rt`,
 //!   `stored/conditions.rt`), as `specs/Flaws`, `specs/Positions` and `specs/stored/StoredQueries`
 //!   define them.

@@ -1,40 +1,16 @@
-//! WHERE, assignments and portions of accepted statements, with positions in place of names.
+//! Assignments and portions of accepted statements, with positions in place of names.
 
 ghost use Rattle.std.specs.Prelude.{◌≡◌, IfOk, Some, false, map};
 ghost use Rattle.std.specs.List.{list_any};
-ghost use Rattle.std.specs.Option.{option_map};
-ghost use Rattle.sql_statements.specs.Plain.{plain_condition};
-ghost use Rattle.statement_resolution.specs.Flaws.{Empty, NotValueColumn, Unknown, has_test};
-ghost use Rattle.statement_resolution.specs.Flaws.{is_flawed_compare, is_flawed_portion};
-ghost use Rattle.statement_resolution.specs.Flaws.{is_flawed_set};
-ghost use Rattle.statement_resolution.specs.Positions.{ResolvesWhere, resolved_comparison};
+ghost use Rattle.statement_resolution.specs.Flaws.{Empty, NotValueColumn, Unknown};
+ghost use Rattle.statement_resolution.specs.Flaws.{is_flawed_portion, is_flawed_set};
 ghost use Rattle.statement_resolution.specs.Positions.{resolved_assignment, period_days};
 ghost use Rattle.statement_resolution.specs.Positions.{portion_days};
 
-use crate::resolver::resolve_condition;
-use catalog_core::{Assignment, Cond, TableDef, value_position};
+use catalog_core::{Assignment, TableDef, value_position};
 use period_core::{Items, Memory, Period};
-use sql_statements::{Compare, Portion, Tree};
+use sql_statements::Portion;
 use std::alloc::Global;
-
-/// The condition of WHERE, if there is one.
-pub fn resolve_where(
-    alloc: Global,
-    table: &TableDef,
-    condition: &Option<Tree<Compare>>,
-) -> Result<Option<Cond>, Memory>
-    requires there { has_test (is_flawed_compare Unknown table.now)
-        (option_map plain_condition condition.now) ≡ false }
-    requires value { has_test (is_flawed_compare NotValueColumn table.now)
-        (option_map plain_condition condition.now) ≡ false }
-    ensures { IfOk result (λ numbered. ResolvesWhere (resolved_comparison table.now)
-        (option_map plain_condition condition.now) numbered) }
-{
-    match condition {
-        Some(condition) => Ok(Some(resolve_condition(alloc, table, condition)?)),
-        None => Ok(None),
-    }
-}
 
 /// An assignment.
 fn resolve_assignment(

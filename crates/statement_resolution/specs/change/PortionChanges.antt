@@ -12,7 +12,7 @@ use Rattle.sql_statements.specs.declared.tree.Tree.{Tree}
 use Rattle.statement_resolution.specs.Flaws.{Flaw, Unknown, Ambiguous, NotValueColumn, OtherKind}
 use Rattle.statement_resolution.specs.Flaws.{TooLong, Empty}
 use Rattle.statement_resolution.specs.Flaws.{has_test, is_flawed_compare, is_flawed_portion}
-use Rattle.statement_resolution.specs.Flaws.{faults_of, is_flawed_set, sets_twice}
+use Rattle.statement_resolution.specs.Flaws.{is_flawed_set, sets_twice}
 use Rattle.catalog_core.specs.RefusalConditions.{RefusalCondition}
 use Rattle.statement_resolution.specs.Positions.{ResolvesWhere, resolved_comparison}
 use Rattle.statement_resolution.specs.Positions.{resolved_assignment}
@@ -24,7 +24,6 @@ use Rattle.catalog_core.specs.declared.change.Action.TheVariants as action
 use Rattle.catalog_core.specs.declared.change.Assignment.{Assignment}
 use Rattle.catalog_core.specs.declared.change.Change.{Change}
 use Rattle.catalog_core.specs.declared.condition.CompareValues.{CompareValues}
-use Rattle.statement_resolution.specs.declared.faults.Faults.{Faults}
 use Rattle.catalog_core.specs.declared.table.TableDef.{TableDef}
 
 -- ==== refusals ====
@@ -70,11 +69,6 @@ delete_faults t d =
     ∷ (TypeMismatch, is_flawed_delete OtherKind d t)
     ∷ (EmptyPeriod, is_flawed_delete Empty d t)
     ∷ []
-
--- all of them at once
-abbrev pub judged_update : TableDef → Update → Faults
-judged_update t u =
-    record (faults_of (λ flaw. is_flawed_update flaw u t)) { twice = sets_twice u.assignments }
 
 -- the refusals that an UPDATE may get by its statement and the catalog, each with its condition
 abbrev pub update_conditions : List TableDef → Update → List RefusalCondition

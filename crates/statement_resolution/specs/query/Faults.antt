@@ -100,6 +100,10 @@ lacks_one catalog reference = is_none (table_of_name catalog reference.table)
 abbrev pub lacks_any : List TableDef → List TableReference → Bool
 lacks_any catalog tables = list_any (λ (r : TableReference). lacks_one catalog r) tables
 
+-- the fault of tables of which one is missing (23)
+abbrev pub missing_fault : Bool → Faults
+missing_fault missing = record no_faults { table = missing }
+
 -- two of them are known by one name
 abbrev pub known_twice : List TableReference → Bool
 known_twice tables = repeats (map known_name tables)

@@ -1,10 +1,9 @@
 -- A stored query: when it is refused, and what it is with positions for names.
-use Rattle.std.specs.Prelude.{◌≡◌, ◌∷◌, ℤ, Bool, List, [], Option, Some, None}
+use Rattle.std.specs.Prelude.{◌≡◌, ◌∷◌, ℤ, Bool, List, [], Option, Some}
 use Rattle.std.specs.Option.{option_map}
 use Rattle.period_core.specs.declared.refusal.Refusal.TheVariants.{UnknownTable, UnknownColumn}
 use Rattle.period_core.specs.declared.refusal.Refusal.TheVariants.{AmbiguousColumn, PeriodColumn}
 use Rattle.period_core.specs.declared.refusal.Refusal.TheVariants.{TypeMismatch, EmptyPeriod}
-use Rattle.sql_statements.specs.Plain.{plain_condition}
 use Rattle.sql_statements.specs.Trees as written
 use Rattle.sql_statements.specs.Trees.{Condition, Statement, stored}
 use Rattle.sql_statements.specs.declared.statement.PeriodOperand.{PeriodOperand}
@@ -17,7 +16,7 @@ use Rattle.statement_resolution.specs.Flaws.{Flaw, Unknown, Ambiguous, NotValueC
 use Rattle.statement_resolution.specs.Flaws.{Empty}
 use Rattle.statement_resolution.specs.Flaws.{has_test, is_flawed_test}
 use Rattle.catalog_core.specs.RefusalConditions.{RefusalCondition}
-use Rattle.statement_resolution.specs.Positions.{map_condition, resolved_comparison}
+use Rattle.statement_resolution.specs.Positions.{ReplacesWhere, resolved_comparison}
 use Rattle.statement_resolution.specs.SystemWindows.{window_of}
 use Rattle.statement_resolution.specs.change.PortionChanges.{lacks_named, of_named}
 use Rattle.catalog_core.specs.table.TableWords.{number_of, table_of}
@@ -107,11 +106,8 @@ test_parts (ContainsDay side day) = HasDay (side_parts side) day
 -- a WHERE with positions for its columns
 abbrev pub ResolvesStoredWhere
     : TableDef → Option (Condition StoredTest) → Option (Tree VersionTest) → Type 0
-ResolvesStoredWhere t None None = Unit {0}
-ResolvesStoredWhere t (Some c) (Some resolved) =
-    map_condition (written_parts t) c
-    ≡ map_condition (λ leaf. Some (test_parts leaf)) (plain_condition resolved)
-ResolvesStoredWhere t _ _ = ⊥
+ResolvesStoredWhere t condition resolved =
+    ReplacesWhere (written_parts t) (λ leaf. Some (test_parts leaf)) condition resolved
 
 -- a stored query of a table of the catalog, with positions
 pub record ResolvesStoredQuery (catalog : List TableDef) (s : written.Stored) (query : Stored)

@@ -6,55 +6,44 @@ ghost use Rattle.sql_statements.specs.Plain.{plain_delete, plain_update};
 ghost use Rattle.statement_resolution.specs.change.PortionChanges.{ResolvesDelete, ResolvesUpdate};
 ghost use Rattle.statement_resolution.specs.change.PortionChanges.{delete_conditions};
 ghost use Rattle.statement_resolution.specs.change.PortionChanges.{delete_faults};
-ghost use Rattle.statement_resolution.specs.change.PortionChanges.{is_flawed_delete, judged_update};
 ghost use Rattle.statement_resolution.specs.change.PortionChanges.{update_conditions};
 ghost use Rattle.statement_resolution.specs.change.PortionChanges.{update_faults};
-ghost use Rattle.statement_resolution.specs.Flaws.{faults_of};
+ghost use Rattle.statement_resolution.specs.Flaws.{own_where_faults};
 ghost use Rattle.catalog_core.specs.RefusalConditions.{Holds, first_holding};
 
 use crate::change::portion_faults::{portion_faults, sets_faults, sets_twice};
 use crate::faults::Faults;
-use crate::positions::{portion_period, resolve_assignments, resolve_where};
-use crate::resolver::where_faults;
+use crate::positions::{portion_period, resolve_assignments};
+use crate::resolver::resolve_where;
 use catalog_core::{Action, Catalog, Change, TableDef};
 use period_core::Refusal;
 use sql_statements::{DeleteRows, UpdateRows};
 use std::alloc::Global;
 
-/// The faults of an UPDATE of this table.
-fn faults_of_update(table: &TableDef, update: &UpdateRows) -> Faults
-    ensures { result ≡ judged_update table.now (plain_update update.now) }
+/// The first of the refusals 24 to 31 and 41 of an UPDATE whose condition holds, by the faults of
+/// its WHERE.
+fn update_fault(table: &TableDef, update: &UpdateRows, of_where: Faults) -> Option<Refusal>
+    requires { of_where ≡ own_where_faults table.now (plain_update update.now).condition }
+    ensures { result ≡ first_holding (update_faults table.now (plain_update update.now)) }
 {
     let sets = update.assignments.as_slice();
     let parts = portion_faults(table, &update.portion)
         .or(sets_faults(table, sets))
-        .or(where_faults(table, &update.condition));
-    Faults {
+        .or(of_where);
+    let faults = Faults {
         twice: sets_twice(sets),
         ..parts
-    }
+    };
+    faults.first()
 }
 
-/// The first of the refusals 24 to 31 and 41 of an UPDATE whose condition holds.
-fn update_fault(table: &TableDef, update: &UpdateRows) -> Option<Refusal>
-    ensures { result ≡ first_holding (update_faults table.now (plain_update update.now)) }
-{
-    faults_of_update(table, update).first()
-}
-
-/// The faults of a DELETE from this table.
-fn faults_of_delete(table: &TableDef, delete: &DeleteRows) -> Faults
-    ensures { result
-        ≡ faults_of (λ flaw. is_flawed_delete flaw (plain_delete delete.now) table.now) }
-{
-    portion_faults(table, &delete.portion).or(where_faults(table, &delete.condition))
-}
-
-/// The first of the refusals 24 to 30 and 41 of a DELETE whose condition holds.
-fn delete_fault(table: &TableDef, delete: &DeleteRows) -> Option<Refusal>
+/// The first of the refusals 24 to 30 and 41 of a DELETE whose condition holds, by the faults of
+/// its WHERE.
+fn delete_fault(table: &TableDef, delete: &DeleteRows, of_where: Faults) -> Option<Refusal>
+    requires { of_where ≡ own_where_faults table.now (plain_delete delete.now).condition }
     ensures { result ≡ first_holding (delete_faults table.now (plain_delete delete.now)) }
 {
-    faults_of_delete(table, delete).first()
+    portion_faults(table, &delete.portion).or(of_where).first()
 }
 
 /// The change that an UPDATE makes. An `Err` is the lowest-numbered of the refusals 23 to 31 and 41
@@ -74,12 +63,13 @@ pub fn resolve_update(
     let Some((number, table)) = catalog.table_named(&update.table) else {
         return Err(Refusal::UnknownTable);
     };
-    if let Some(fault) = update_fault(table, update) {
+    let mut found = Faults::none();
+    let condition = resolve_where(alloc, table, &update.condition, &mut found)?;
+    if let Some(fault) = update_fault(table, update, found) {
         return Err(fault);
     }
     let portion = portion_period(table, &update.portion);
     let assignments = resolve_assignments(alloc, table, update.assignments.as_slice())?;
-    let condition = resolve_where(alloc, table, &update.condition)?;
     Ok(Change {
         table: number,
         action: Action::Update(portion, assignments, condition),
@@ -103,11 +93,12 @@ pub fn resolve_delete(
     let Some((number, table)) = catalog.table_named(&delete.table) else {
         return Err(Refusal::UnknownTable);
     };
-    if let Some(fault) = delete_fault(table, delete) {
+    let mut found = Faults::none();
+    let condition = resolve_where(alloc, table, &delete.condition, &mut found)?;
+    if let Some(fault) = delete_fault(table, delete, found) {
         return Err(fault);
     }
     let portion = portion_period(table, &delete.portion);
-    let condition = resolve_where(alloc, table, &delete.condition)?;
     Ok(Change {
         table: number,
         action: Action::Delete(portion, condition),

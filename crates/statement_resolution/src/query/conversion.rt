@@ -5,6 +5,7 @@ ghost use Rattle.std.specs.Prelude.{map, true};
 ghost use Rattle.sql_statements.specs.Plain.{plain_condition};
 ghost use Rattle.statement_resolution.specs.Faults.{either, faults_among};
 ghost use Rattle.statement_resolution.specs.query.Faults as judged;
+ghost use Rattle.statement_resolution.specs.query.Faults.{lacks_any, lacks_one, missing_fault};
 ghost use Rattle.catalog_core.specs.query.Fitting.{are_in_place};
 ghost use Rattle.statement_resolution.specs.query.Places.{place_among, placed_item, placed_members};
 ghost use Rattle.statement_resolution.specs.query.Places.{placed_reference};
@@ -16,7 +17,7 @@ ghost use Rattle.catalog_core.specs.query.Selection.{item_parts};
 use crate::comparison::ColumnNames;
 use crate::faults::Faults;
 use crate::query::scope::Scope;
-use crate::resolver::{condition_faults, resolve_condition};
+use crate::resolver::resolve_condition;
 use crate::system_window::window_of;
 use catalog_core::resolved::QueryReference;
 use catalog_core::{
@@ -62,11 +63,10 @@ pub fn push_members(
         (judged.condition_faults scope.now.seen.now (plain_condition condition.now))) }
 {
     let (first, others) = outer_and(condition);
-    conjuncts.push(resolve_condition(alloc, scope, first)?)?;
+    conjuncts.push(resolve_condition(alloc, scope, first, faults)?)?;
     for part in others {
-        conjuncts.push(resolve_condition(alloc, scope, part)?)?;
+        conjuncts.push(resolve_condition(alloc, scope, part, faults)?)?;
     }
-    *faults = faults.or(condition_faults(scope, condition));
     Ok(())
 }
 
@@ -115,19 +115,27 @@ fn value_kinds(alloc: Global, table: &TableDef) -> Result<Vec<ValueKind>, Memory
     Ok(kinds)
 }
 
-/// A reference by its table's number: 0 for a table that is missing, as in no accepted query.
+/// A reference by its table's number: 0 for a table that is missing, a fault that is added to those
+/// found so far.
 fn convert_reference(
     alloc: Global,
     catalog: &Catalog,
     reference: &TableReference,
     place: usize,
+    faults: &mut Faults,
 ) -> Result<QueryReference, Memory>
     ensures parts { IfOk result (λ numbered.
         placed_reference catalog.now.tables reference.now ≡ reference_parts numbered) }
     ensures placed { IfOk result (λ numbered. numbered.place ≡ place) }
+    ensures faults { IfOk result (λ _. faults.new
+        ≡ either faults.old (missing_fault (lacks_one catalog.now.tables reference.now))) }
 {
     let window = window_of(&reference.window);
     let Some((number, table)) = catalog.table_named(&reference.table) else {
+        *faults = faults.or(Faults {
+            table: true,
+            ..Faults::none()
+        });
         return Ok(QueryReference {
             place,
             table: 0,
@@ -144,23 +152,27 @@ fn convert_reference(
     })
 }
 
-/// References by their tables' numbers. Their places count up from this one.
+/// References by their tables' numbers. Their places count up from this one, and a fault is added
+/// to those found so far if a table is missing.
 pub fn convert_references(
     alloc: Global,
     catalog: &Catalog,
     references: &[&TableReference],
     place: usize,
+    faults: &mut Faults,
 ) -> Result<Vec<QueryReference>, Memory>
     requires { place + length references.now < 1_000 }
     ensures parts { IfOk result (λ numbered.
         map (placed_reference catalog.now.tables) (map (λ r. r.now) references.now)
         ≡ map reference_parts numbered.items) }
     ensures placed { IfOk result (λ numbered. are_in_place place numbered.items ≡ true) }
+    ensures faults { IfOk result (λ _. faults.new ≡ either faults.old
+        (missing_fault (lacks_any catalog.now.tables (map (λ r. r.now) references.now)))) }
 {
     let mut numbered = Vec::new(alloc);
     let mut next = place;
     for reference in references {
-        numbered.push(convert_reference(alloc, catalog, *reference, next)?)?;
+        numbered.push(convert_reference(alloc, catalog, *reference, next, faults)?)?;
         next += 1;
     }
     Ok(numbered)

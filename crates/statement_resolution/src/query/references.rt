@@ -1,14 +1,11 @@
-//! The table references of a select, in the order of the text, and their faults.
+//! The table references of a select, in the order of the text.
 
-ghost use Rattle.std.specs.Prelude.{◌≡◌, ◌<◌, ◌++◌, IfOk, is_none, length, map};
+ghost use Rattle.std.specs.Prelude.{◌≡◌, ◌<◌, ◌++◌, IfOk, length, map};
 ghost use Rattle.sql_statements.specs.Plain.{plain_chain, plain_select};
-ghost use Rattle.statement_resolution.specs.query.Faults.{known_twice, lacks_any};
-ghost use Rattle.statement_resolution.specs.query.Faults.{reference_faults};
+ghost use Rattle.statement_resolution.specs.query.Faults.{known_twice};
 ghost use Rattle.statement_resolution.specs.query.Scopes.{chain_tables, tables_of};
-ghost use Rattle.catalog_core.specs.table.TableWords.{table_of_name};
 
-use crate::faults::Faults;
-use catalog_core::{Catalog, MatchCount, known_name, matches_among};
+use catalog_core::{MatchCount, known_name, matches_among};
 use period_core::Memory;
 use sql_statements::{JoinChain, SelectDistinct, TableReference};
 use std::alloc::Global;
@@ -41,30 +38,8 @@ pub fn references_of(alloc: Global, select: &SelectDistinct) -> Result<Vec<&Tabl
     Ok(references)
 }
 
-/// Whether the table of a reference is missing.
-fn is_missing(catalog: &Catalog, reference: &TableReference) -> bool
-    ensures { result ≡ is_none (table_of_name catalog.now.tables reference.now.table) }
-{
-    match catalog.table_named(&reference.table) {
-        Some(_) => false,
-        None => true,
-    }
-}
-
-/// Whether one of their tables is missing.
-fn lacks_table(catalog: &Catalog, references: &[&TableReference]) -> bool
-    ensures { result ≡ lacks_any catalog.now.tables (map (λ r. r.now) references.now) }
-{
-    for reference in references {
-        if is_missing(catalog, reference) {
-            return true;
-        }
-    }
-    false
-}
-
 /// Whether two of them are known by one name.
-fn names_twice(references: &[&TableReference]) -> bool
+pub fn names_twice(references: &[&TableReference]) -> bool
     ensures { result ≡ known_twice (map (λ r. r.now) references.now) }
 {
     for reference in references {
@@ -73,15 +48,4 @@ fn names_twice(references: &[&TableReference]) -> bool
         }
     }
     false
-}
-
-/// The faults of the tables of a select.
-pub fn table_faults(catalog: &Catalog, references: &[&TableReference]) -> Faults
-    ensures { result ≡ reference_faults catalog.now.tables (map (λ r. r.now) references.now) }
-{
-    Faults {
-        table: lacks_table(catalog, references),
-        twice: names_twice(references),
-        ..Faults::none()
-    }
 }

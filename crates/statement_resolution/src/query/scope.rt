@@ -89,11 +89,13 @@ impl<'a> Resolver<Compare> for Scope<'a> {
 
     ghost parts = { λ numbered. Some numbered };
 
-    fn test_faults(&self, test: &Compare) -> Faults {
-        compare_faults(self, test)
-    }
-
-    fn resolve_test(&self, alloc: Global, test: &Compare) -> Result<CompareValues, Memory> {
+    fn resolve_test(
+        &self,
+        alloc: Global,
+        test: &Compare,
+        found: &mut Faults,
+    ) -> Result<CompareValues, Memory> {
+        *found = found.or(compare_faults(self, test));
         resolve_comparison(alloc, self, test)
     }
 }

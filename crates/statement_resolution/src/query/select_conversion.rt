@@ -15,7 +15,7 @@ ghost use Rattle.statement_resolution.specs.query.Scopes.{seen_columns, tables_o
 
 use crate::faults::Faults;
 use crate::query::conversion::{convert_items, convert_references, push_members};
-use crate::query::references::{references_of, table_faults};
+use crate::query::references::{names_twice, references_of};
 use crate::query::scope::Scope;
 use crate::query::seen_column::{SeenColumn, push_columns};
 use crate::query::sides::Side;
@@ -105,8 +105,11 @@ pub fn convert_select(
         (simple (plain_select select.now)) place.old place.new faults.old faults.new side) }
 {
     let references = references_of(alloc, select)?;
-    *faults = faults.or(table_faults(catalog, references.as_slice()));
-    let references = convert_references(alloc, catalog, references.as_slice(), *place)?;
+    *faults = faults.or(Faults {
+        twice: names_twice(references.as_slice()),
+        ..Faults::none()
+    });
+    let references = convert_references(alloc, catalog, references.as_slice(), *place, faults)?;
     *place += references.len();
     let mut columns = Vec::new(alloc);
     let conjuncts = convert_conjuncts(alloc, catalog, select, &mut columns, faults)?;

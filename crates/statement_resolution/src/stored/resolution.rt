@@ -1,39 +1,21 @@
 //! A stored query: its refusal, or the query with positions in place of names.
 
-ghost use Rattle.std.specs.Prelude.{◌≡◌, IfErr, IfOk, OnOk};
+ghost use Rattle.std.specs.Prelude.{IfErr, IfOk, OnOk};
 ghost use Rattle.period_core.specs.Leasts.{MayAnswer, NoneApplies};
 ghost use Rattle.sql_statements.specs.Plain.{plain, plain_stored};
-ghost use Rattle.statement_resolution.specs.Flaws.{faults_of};
-ghost use Rattle.catalog_core.specs.RefusalConditions.{Holds, first_holding};
+ghost use Rattle.catalog_core.specs.RefusalConditions.{Holds};
 ghost use Rattle.statement_resolution.specs.stored.StoredQueries.{IsStored, ResolvesStored};
 ghost use Rattle.statement_resolution.specs.stored.StoredQueries.{ResolvesStoredQuery};
-ghost use Rattle.statement_resolution.specs.stored.StoredQueries.{is_flawed_stored};
-ghost use Rattle.statement_resolution.specs.stored.StoredQueries.{stored_conditions, stored_faults};
+ghost use Rattle.statement_resolution.specs.stored.StoredQueries.{stored_conditions};
 ghost use Rattle.statement_resolution.specs.stored.StoredQueries.{stored_query_conditions};
 
 use crate::faults::Faults;
-use crate::resolver::where_faults;
-use crate::stored::conditions::resolve_stored_where;
+use crate::resolver::resolve_where;
 use crate::system_window::window_of;
-use catalog_core::{Catalog, Stored, TableDef};
+use catalog_core::{Catalog, Stored};
 use period_core::Refusal;
 use sql_statements::{Statement, StatementForm, StoredQuery};
 use std::alloc::Global;
-
-/// The faults of a stored query of this table.
-fn faults_of_stored(table: &TableDef, query: &StoredQuery) -> Faults
-    ensures { result
-        ≡ faults_of (λ flaw. is_flawed_stored flaw (plain_stored query.now) table.now) }
-{
-    where_faults(table, &query.condition)
-}
-
-/// The first of the refusals 24 to 30 and 41 whose condition holds.
-fn stored_fault(table: &TableDef, query: &StoredQuery) -> Option<Refusal>
-    ensures { result ≡ first_holding (stored_faults table.now (plain_stored query.now)) }
-{
-    faults_of_stored(table, query).first()
-}
 
 /// A stored query with positions for names. An `Err` is the lowest-numbered of the refusals 23 to
 /// 30 and 41 that apply, or out of memory.
@@ -52,10 +34,11 @@ pub fn resolve_stored_query(
     let Some((number, table)) = catalog.table_named(&query.table) else {
         return Err(Refusal::UnknownTable);
     };
-    if let Some(fault) = stored_fault(table, query) {
+    let mut found = Faults::none();
+    let condition = resolve_where(alloc, table, &query.condition, &mut found)?;
+    if let Some(fault) = found.first() {
         return Err(fault);
     }
-    let condition = resolve_stored_where(alloc, table, &query.condition)?;
     Ok(Stored {
         table: number,
         window: window_of(&query.window),

@@ -22,7 +22,7 @@ use Rattle.catalog_core.specs.Conditions.{tests_among, tests_of}
 use Rattle.statement_resolution.specs.Flaws.{has_test, is_flawed_column, is_flawed_compare, is_flawed_portion, is_flawed_set, is_flawed_side, is_of_two_kinds, some_test, Flaw, NotValueColumn, Unknown}
 use Rattle.statement_resolution.specs.Placing.{or_zero, place_compare, placed_compare, placed_side}
 use Rattle.statement_resolution.specs.change.PortionChanges.{is_flawed_delete, is_flawed_update}
-use Rattle.statement_resolution.specs.Positions.{map_condition, map_conditions, resolved_comparison, resolved_operand}
+use Rattle.statement_resolution.specs.Positions.{ReplacesWhere, ResolvesWhere, map_condition, map_conditions, resolved_comparison, resolved_operand}
 use Rattle.catalog_core.specs.query.Selection.{value_position}
 use Rattle.catalog_core.specs.declared.condition.Comparand.{Comparand}
 use Rattle.catalog_core.specs.declared.condition.Comparand.TheVariants.{Position}
@@ -131,8 +131,16 @@ module _ {T R : Type 0} (p q r : T → Bool) (f g : T → R) (same : (x : T) →
         ap (λ (c : Condition R). more c (map_conditions f parts)) (agree part first.0 second.0 third.0) ∙ ap (λ (cs : Conditions R). more (map_condition g part) cs) (agree_each parts first.1 second.1 third.1)
 
 -- a sound condition by its positions
-pub condition_placed : (t : TableDef) (c : Condition Compare) → some_test (is_flawed_compare Unknown t) c ≡ false → some_test (is_flawed_compare NotValueColumn t) c ≡ false → map_condition (resolved_comparison t) c ≡ map_condition (placed t) c
+condition_placed : (t : TableDef) (c : Condition Compare) → some_test (is_flawed_compare Unknown t) c ≡ false → some_test (is_flawed_compare NotValueColumn t) c ≡ false → map_condition (resolved_comparison t) c ≡ map_condition (placed t) c
 condition_placed t c there value = agree (is_flawed_compare Unknown t) (is_flawed_compare NotValueColumn t) (is_flawed_compare NotValueColumn t) (resolved_comparison t) (placed t) (λ x h k l. compare_placed t x h k) c there value value
+
+-- a sound WHERE by its positions
+pub where_placed : (t : TableDef) (condition : Option (Condition Compare)) (numbered : Option (code.Tree CompareValues)) → has_test (is_flawed_compare Unknown t) condition ≡ false → has_test (is_flawed_compare NotValueColumn t) condition ≡ false
+    → ReplacesWhere (placed t) (λ leaf. Some leaf) condition numbered → ResolvesWhere (resolved_comparison t) condition numbered
+where_placed t None None there value same = tt
+where_placed t None (Some n) there value same = same
+where_placed t (Some c) None there value same = same
+where_placed t (Some c) (Some n) there value same = condition_placed t c there value ∙ same
 
 -- ---- loops over parts
 

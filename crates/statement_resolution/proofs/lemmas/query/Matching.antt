@@ -5,20 +5,13 @@ use Rattle.std.proofs.lemmas.Bool.Decides.{nat_tests}
 use Rattle.std.proofs.lemmas.List.{append-nil}
 use Rattle.std.proofs.lemmas.List.Elements.{filter_more}
 use Rattle.sql_statements.specs.declared.statement.ColumnReference.{ColumnReference}
+use Rattle.statement_resolution.proofs.lemmas.judged.FaultSums.{or_assoc, or_none}
 use Rattle.statement_resolution.specs.query.Faults.{match_faults, match_kind, matches_among}
 use Rattle.statement_resolution.specs.query.Matched.{found_faults, matched, matched_more}
 use Rattle.statement_resolution.specs.query.Faults.{are_of_period}
 use Rattle.statement_resolution.specs.query.Scopes.{SeenColumn, has_value, names_column}
 use Rattle.catalog_core.specs.table.Matches.{is_matching}
 use Rattle.statement_resolution.specs.declared.query.seen_column.Matched.{Matched}
-
-or_assoc : (a b c : Bool) → ((a || b) || c) ≡ (a || (b || c))
-or_assoc true b c = refl
-or_assoc false b c = refl
-
-or_none : (a : Bool) → (a || false) ≡ a
-or_none true = refl
-or_none false = refl
 
 period_push : (ms : List SeenColumn) (x : SeenColumn) → are_of_period (ms ++ x ∷ []) ≡ (are_of_period ms || not (has_value x))
 period_push [] x = or_none (not (has_value x))

@@ -1,16 +1,21 @@
--- The members of a condition's outermost AND, by the program's tree.
+-- The members of a condition's outermost AND, by the program's tree, and their faults.
 use Rattle.std.proofs.Common.{◌≡◌, ◌<◌, ◌≤◌, ◌+◌, ◌++◌, ◌∷◌, ◌∙◌, ℕ, List, [], Option, append_assoc, get_or, length, map, refl, sym, take, take_all, ap}
-use Rattle.std.proofs.lemmas.List.{map_push, take_more}
+use Rattle.std.proofs.lemmas.List.{append-nil, map_push, take_more}
 use Rattle.std.specs.Global.{Box, Vec}
 use Rattle.sql_statements.specs.Plain.{plain_condition}
-use Rattle.sql_statements.specs.Trees.{Condition, any, conditions_of, more}
+use Rattle.sql_statements.specs.Trees.{Condition, Conditions, all, any, conditions_of, more, negated, none, test}
 use Rattle.sql_statements.specs.declared.tree.Tree as code
 use Rattle.catalog_core.proofs.lemmas.conditions.Truth.{and_view, not_view, or_view, test_view}
 use Rattle.statement_resolution.proofs.lemmas.conditions.Numbers.{mapped}
+use Rattle.statement_resolution.proofs.lemmas.conditions.Parts.{faults_in}
+use Rattle.statement_resolution.proofs.lemmas.judged.FaultSums.{among_append, among_end, among_map, either_assoc, either_none}
+use Rattle.catalog_core.specs.Conditions.{tests_among, tests_of}
+use Rattle.statement_resolution.specs.Faults.{condition_faults, either, faults_among}
 use Rattle.statement_resolution.specs.Positions.{map_condition}
 use Rattle.statement_resolution.specs.query.Resolving.{Placed, conjunct_parts, list_of, members}
 use Rattle.catalog_core.specs.declared.condition.CompareValues.{CompareValues}
 use Rattle.sql_statements.specs.declared.statement.Compare.{Compare}
+use Rattle.statement_resolution.specs.declared.faults.Faults.{Faults}
 
 module _ {T : Type 0} where
   listed : (parts : List (Condition T)) → list_of (conditions_of parts) ≡ parts
@@ -78,3 +83,31 @@ module _ (f : Compare → Option CompareValues) where
       map_map : (xs : List (code.Tree Compare)) → map (map_condition f) (map plain_condition xs) ≡ map (mapped f) xs
       map_map [] = refl
       map_map (x ∷ xs) = ap (λ (cs : List Placed). mapped f x ∷ cs) (map_map xs)
+
+-- ---- the faults of the members
+
+module _ {T : Type 0} (f : T → Faults) where
+  listed_faults : (parts : Conditions T) → faults_among (condition_faults f) (list_of parts) ≡ faults_among f (tests_among parts)
+  listed_faults none = refl
+  listed_faults (more part parts) = ap (either (condition_faults f part)) (listed_faults parts) ∙ sym (among_append f (tests_of part) (tests_among parts))
+
+  members_faults : (c : Condition T) → faults_among (condition_faults f) (members c) ≡ condition_faults f c
+  members_faults (all parts) = listed_faults parts
+  members_faults (any none) = refl
+  members_faults (any (more part none)) = members_faults part ∙ ap (faults_among f) (sym (append-nil (tests_of part)))
+  members_faults (any (more part (more next parts))) = either_none (condition_faults f (any (more part (more next parts))))
+  members_faults (negated part) = either_none (condition_faults f (negated part))
+  members_faults (test leaf) = either_none (condition_faults f (test leaf))
+
+  pub many_faults : (q first : code.Tree T) (parts : List (code.Tree T)) (i : ℕ) (old begun now : Faults)
+      → members (plain_condition q) ≡ plain_condition first ∷ map plain_condition parts → begun ≡ either old (faults_in f first) → length parts ≤ i
+      → now ≡ either begun (faults_among (faults_in f) (take i parts)) → now ≡ either old (faults_in f q)
+  many_faults q first parts i old begun now is start done so_far =
+      let sum : Faults = faults_among (faults_in f) parts in
+      so_far ∙ ap (λ (g : Faults). either g (faults_among (faults_in f) (take i parts))) start
+      ∙ ap (either (either old (faults_in f first))) (among_end (faults_in f) parts parts i done refl)
+      ∙ either_assoc old (faults_in f first) sum
+      ∙ ap (either old)
+      (ap (either (faults_in f first)) (sym (among_map (condition_faults f) plain_condition parts))
+      ∙ ap (faults_among (condition_faults f)) (sym is)
+      ∙ members_faults (plain_condition q))

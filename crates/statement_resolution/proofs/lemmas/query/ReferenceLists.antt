@@ -1,7 +1,6 @@
 -- The table references of a select, in a loop over its chains and their joins.
-use Rattle.std.proofs.Common.{◌≡◌, ◌<◌, ◌+◌, ◌++◌, ◌∷◌, ◌||◌, ◌∙◌, ℕ, suc, Bool, true, false, List, [], Some, None, Bor, append_assoc, arith, bytes_eq, cond, count_by, filter, flat_map, get_or, take, length, map, refl, sym, ap}
+use Rattle.std.proofs.Common.{◌≡◌, ◌<◌, ◌+◌, ◌++◌, ◌∷◌, ◌||◌, ◌∙◌, ℕ, suc, Bool, true, false, List, [], Bor, append_assoc, arith, bytes_eq, cond, count_by, filter, flat_map, get_or, take, length, map, refl, sym, ap}
 use Rattle.std.specs.List.{list_any}
-use Rattle.std.specs.Option.{is_none}
 use Rattle.std.proofs.lemmas.List.{append-nil, map_push, take_more}
 use Rattle.std.proofs.lemmas.List.Folds.{list_any_more}
 use Rattle.std.proofs.lemmas.List.Sums.{length-filter}
@@ -11,16 +10,12 @@ use Rattle.sql_statements.specs.Trees as written
 use Rattle.sql_statements.specs.declared.statement.Join.{Join}
 use Rattle.sql_statements.specs.declared.statement.JoinChain.{JoinChain}
 use Rattle.sql_statements.specs.declared.statement.TableReference.{TableReference}
-use Rattle.catalog_core.proofs.lemmas.table.Named.{table_named}
 use Rattle.catalog_core.proofs.lemmas.lists.AnyTests.{any_same}
-use Rattle.statement_resolution.proofs.lemmas.query.ColumnLists.{not_there}
 use Rattle.statement_resolution.specs.query.Faults.{known_twice}
 use Rattle.statement_resolution.specs.query.Scopes.{chain_tables}
 use Rattle.catalog_core.specs.table.Naming.{known_name}
 use Rattle.catalog_core.specs.table.Matches.{is_matching}
 use Rattle.catalog_core.specs.table.Naming.{Name, matches_among, repeats}
-use Rattle.catalog_core.specs.table.TableWords.{number_of, table_of, table_of_name}
-use Rattle.catalog_core.specs.declared.table.TableDef.{TableDef}
 use Rattle.catalog_core.specs.declared.table.match_counts.MatchCount.TheVariants.{Many}
 
 -- the tables of chains, and of the first of them
@@ -100,17 +95,7 @@ twice_by rs =
     ∙ any_map by known_name (map (λ (r : Borrowed). r.now) rs)
     ∙ any_map (λ (r : TableReference). by (known_name r)) (λ (r : Borrowed). r.now) rs
 
--- ---- the tables that exist
-
-abbrev pub misses : List TableDef → TableReference → Bool
-misses catalog r = is_none (table_of_name catalog r.table)
-
-pub missing_found : (catalog : List TableDef) (name : Name) (number : ℕ) (t : TableDef) → number_of catalog name ≡ Some number → table_of catalog number ≡ Some t
-    → false ≡ is_none (table_of_name catalog name)
-missing_found catalog name number t numbered there = ap is_none (sym (table_named catalog name number t numbered there))
-
-pub missing_none : (catalog : List TableDef) (name : Name) → number_of catalog name ≡ None → true ≡ is_none (table_of_name catalog name)
-missing_none catalog name none = ap is_none (sym (not_there catalog name none))
+-- ---- lists
 
 -- one more element fails a test that no earlier one passes
 pub any_next : {X : Type 0} (p : X → Bool) (xs : List X) (i : ℕ) (x : X) → i < length xs → x ≡ get_or xs i x → list_any p (take i xs) ≡ false → p x ≡ false → list_any p (take (i + 1) xs) ≡ false

@@ -7,12 +7,15 @@ use Rattle.std.proofs.lemmas.List.{length-map, length-take-le}
 use Rattle.period_core.specs.declared.window.Window.{Window}
 use Rattle.sql_statements.specs.declared.statement.TableReference.{TableReference}
 use Rattle.statement_resolution.proofs.lemmas.query.ColumnLists.{not_there}
+use Rattle.statement_resolution.proofs.lemmas.query.ReferenceLists.{Borrowed}
+use Rattle.statement_resolution.specs.Faults.{either, faults_among, no_faults}
 use Rattle.statement_resolution.specs.SystemWindows.{window_of}
 use Rattle.catalog_core.specs.query.Fitting.{are_in_place}
-use Rattle.statement_resolution.specs.query.Faults.{lacks_one}
+use Rattle.statement_resolution.specs.query.Faults.{lacks_any, lacks_one, missing_fault}
 use Rattle.statement_resolution.specs.query.Places.{placed_reference}
 use Rattle.statement_resolution.specs.query.Resolving.{ReferenceParts, reference_parts, value_kinds, written_reference}
 use Rattle.catalog_core.specs.table.TableWords.{number_of, table_of_name}
+use Rattle.statement_resolution.specs.declared.faults.Faults.{Faults}
 use Rattle.catalog_core.specs.declared.query.resolved.QueryReference.{QueryReference}
 use Rattle.catalog_core.specs.declared.table.TableDef.{TableDef}
 use Rattle.catalog_core.specs.declared.table.ValueKind.{ValueKind}
@@ -37,6 +40,16 @@ found_parts catalog r there =
     by (Some n) (Some t) numbered found h = rw (numbered, found) refl
     by None (Some t) numbered found h = absurd (false≢true (sym h ∙ ap is_none (sym found ∙ not_there catalog r.table numbered)))
     by n None numbered found h = absurd (false≢true (sym h))
+
+-- ---- the fault of tables that are missing
+
+pub missing_one : (catalog : List TableDef) (r : TableReference) (old none : Faults) (o : Option TableDef) → none ≡ no_faults → table_of_name catalog r.table ≡ o
+    → either old (record none { table = is_none o }) ≡ either old (missing_fault (lacks_one catalog r))
+missing_one catalog r old none o clean same = rw (clean, same) refl
+
+pub missing_sum : (catalog : List TableDef) (rs : List Borrowed) → faults_among (λ (r : Borrowed). missing_fault (lacks_one catalog r.now)) rs ≡ missing_fault (lacks_any catalog (map (λ (r : Borrowed). r.now) rs))
+missing_sum catalog [] = refl
+missing_sum catalog (r ∷ rs) = ap (either (missing_fault (lacks_one catalog r.now))) (missing_sum catalog rs)
 
 -- one more reference, after those that are in their places
 pub placed_more : (place : ℕ) (rs : List QueryReference) (r : QueryReference) → are_in_place place rs ≡ true → r.place ≡ place + length rs → are_in_place place (rs ++ r ∷ []) ≡ true

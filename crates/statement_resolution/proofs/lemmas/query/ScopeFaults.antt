@@ -11,10 +11,10 @@ use Rattle.sql_statements.specs.declared.statement.Join.{Join}
 use Rattle.sql_statements.specs.declared.statement.JoinChain.{JoinChain}
 use Rattle.sql_statements.specs.declared.statement.SelectItem.{SelectItem}
 use Rattle.sql_statements.specs.declared.statement.TableReference.{TableReference}
-use Rattle.statement_resolution.proofs.lemmas.judged.FaultSums.{among_append, among_push, either_assoc, either_none}
+use Rattle.statement_resolution.proofs.lemmas.judged.FaultSums.{among_append, among_push, either_assoc, either_none, or_none}
 use Rattle.statement_resolution.proofs.lemmas.query.ReferenceLists.{front_tables, front_tables_more, join_tables, join_tables_more}
 use Rattle.statement_resolution.specs.Faults.{either, faults_among, no_faults}
-use Rattle.statement_resolution.specs.query.Faults.{condition_faults, item_faults, query_faults, reference_faults, scoped_faults, select_faults}
+use Rattle.statement_resolution.specs.query.Faults.{condition_faults, item_faults, known_twice, lacks_any, missing_fault, query_faults, reference_faults, scoped_faults, select_faults}
 use Rattle.catalog_core.specs.table.TableWords.{table_of_name}
 use Rattle.statement_resolution.specs.query.Scopes.{ScopedCondition, declared_columns, SeenColumn, chain_conditions, chain_tables, conditions_in, on_conditions, seen_columns, tables_of, where_conditions, whole_scope}
 use Rattle.catalog_core.specs.table.Naming.{known_name}
@@ -151,18 +151,24 @@ module _ (catalog : List TableDef) (s : written.Select) where
       ∙ ap (λ (cs : List ScopedCondition). either old (faults_among f cs)) (sym (append-nil (on_conditions [] s.chains)))
       ∙ ap (λ o. either old (faults_among f (on_conditions [] s.chains ++ where_conditions (whole_scope s) o))) (sym is)
 
-  -- the tables, then the conditions, then the items
-  pub select_sum : (old tables begun judged whole : Faults) (columns : List SeenColumn) (items : List SelectItem) → tables ≡ reference_faults catalog (tables_of s) → begun ≡ either old tables
-      → judged ≡ either begun (faults_among (scoped_faults catalog) (conditions_in s)) → columns ≡ seen_columns catalog (tables_of s) → items ≡ s.items
-      → whole ≡ either judged (faults_among (item_faults columns) items) → whole ≡ either old (query_faults catalog (written.simple s))
+  -- the names of the tables, then the tables, the conditions and the items
+  pub select_sum : (old none begun placed judged whole : Faults) (columns : List SeenColumn) (items : List SelectItem) → none ≡ no_faults → begun ≡ either old (record none { twice = known_twice (tables_of s) })
+      → placed ≡ either begun (missing_fault (lacks_any catalog (tables_of s))) → judged ≡ either placed (faults_among (scoped_faults catalog) (conditions_in s))
+      → columns ≡ seen_columns catalog (tables_of s) → items ≡ s.items → whole ≡ either judged (faults_among (item_faults columns) items) → whole ≡ either old (query_faults catalog (written.simple s))
   unfolding select_faults
-  select_sum old tables begun judged whole columns items of_tables of_begun of_judged seen same of_whole =
+  select_sum old none begun placed judged whole columns items clean of_begun of_placed of_judged seen same of_whole =
       let conditions : Faults = faults_among (scoped_faults catalog) (conditions_in s) in
       let named : Faults = faults_among (item_faults (seen_columns catalog (tables_of s))) s.items in
+      let twice : Faults = record no_faults { twice = known_twice (tables_of s) } in
+      let missing : Faults = missing_fault (lacks_any catalog (tables_of s)) in
       let first : Faults = reference_faults catalog (tables_of s) in
       let all : Faults = either first (either conditions named) in
+      let both : either twice missing ≡ first = rw (or_none (known_twice (tables_of s))) refl in
+      let tables : placed ≡ either old first =
+      of_placed ∙ ap (λ (g : Faults). either g missing) (of_begun ∙ ap (λ (g : Faults). either old (record g { twice = known_twice (tables_of s) })) clean)
+      ∙ either_assoc old twice missing ∙ ap (either old) both in
       of_whole ∙ ap (λ (cs : List SeenColumn). either judged (faults_among (item_faults cs) items)) seen
       ∙ ap (λ (xs : List SelectItem). either judged (faults_among (item_faults (seen_columns catalog (tables_of s))) xs)) same
-      ∙ ap (λ (g : Faults). either g named) (of_judged ∙ ap (λ (g : Faults). either g conditions) (of_begun ∙ ap (either old) of_tables))
+      ∙ ap (λ (g : Faults). either g named) (of_judged ∙ ap (λ (g : Faults). either g conditions) tables)
       ∙ either_assoc (either old first) conditions named ∙ either_assoc old first (either conditions named)
       ∙ ap (either old) (sym (either_none all) ∙ sym (either_none (either all no_faults)))

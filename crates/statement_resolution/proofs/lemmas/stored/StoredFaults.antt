@@ -8,14 +8,15 @@ use Rattle.sql_statements.specs.Trees.{Stored}
 use Rattle.sql_statements.specs.declared.statement.PeriodOperand.TheVariants.{Named, Dates}
 use Rattle.sql_statements.specs.declared.statement.StoredTest.{StoredTest}
 use Rattle.sql_statements.specs.declared.statement.StoredTest.TheVariants.{Values, Periods, ContainsDay}
-use Rattle.statement_resolution.proofs.lemmas.conditions.Flawed.{compare_short, none_short}
+use Rattle.statement_resolution.proofs.lemmas.conditions.Flawed.{compare_short, none_short, where_flaws}
 use Rattle.catalog_core.proofs.lemmas.judged.Least.{Ascending, first_least, none_first}
-use Rattle.statement_resolution.specs.Faults.{fault_conditions}
+use Rattle.statement_resolution.specs.Faults.{fault_conditions, where_faults}
 use Rattle.statement_resolution.specs.Flaws.{TooLong, faults_of, is_flawed_period, is_flawed_test}
 use Rattle.statement_resolution.specs.change.PortionChanges.{lacks_named}
 use Rattle.statement_resolution.specs.stored.StoredQueries.{is_flawed_stored, stored_faults, stored_query_conditions}
 use Rattle.catalog_core.specs.RefusalConditions.{Holds, first_holding}
 use Rattle.catalog_core.specs.table.TableWords.{number_of, table_of, table_of_name}
+use Rattle.statement_resolution.specs.declared.faults.Faults.{Faults}
 use Rattle.catalog_core.specs.declared.table.TableDef.{TableDef}
 
 -- no text of a stored query is too long
@@ -33,8 +34,15 @@ stored_short : (t : TableDef) (s : Stored) → is_flawed_stored TooLong s t ≡ 
 unfolding is_flawed_stored
 stored_short t s = none_short (is_flawed_test TooLong t) (test_short t) s.condition
 
-pub stored_first : (t : TableDef) (s : Stored) → first_holding (fault_conditions (faults_of (λ flaw. is_flawed_stored flaw s t))) ≡ first_holding (stored_faults t s)
-stored_first t s = rw (stored_short t s) refl
+stored_short_first : (t : TableDef) (s : Stored) → first_holding (fault_conditions (faults_of (λ flaw. is_flawed_stored flaw s t))) ≡ first_holding (stored_faults t s)
+stored_short_first t s = rw (stored_short t s) refl
+
+-- the first of the faults of the tests
+pub stored_first : (t : TableDef) (s : Stored) (found : Faults) → found ≡ where_faults (λ x. faults_of (λ flaw. is_flawed_test flaw t x)) s.condition → first_holding (fault_conditions found) ≡ first_holding (stored_faults t s)
+unfolding is_flawed_stored
+stored_first t s found same =
+    ap (λ (f : Faults). first_holding (fault_conditions f)) (same ∙ where_flaws (λ flaw x. is_flawed_test flaw t x) s.condition)
+    ∙ stored_short_first t s
 
 stored_ascending : (tables : List TableDef) (s : Stored) → Ascending 0 (stored_query_conditions tables s)
 stored_ascending tables s = (lit≤ tt, (lit≤ tt, (lit≤ tt, (lit≤ tt, (lit≤ tt, (lit≤ tt, tt))))))

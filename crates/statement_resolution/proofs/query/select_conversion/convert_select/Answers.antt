@@ -5,7 +5,8 @@ use Rattle.statement_resolution.proofs.lemmas.query.Accepted.{sound_one}
 use Rattle.statement_resolution.proofs.lemmas.query.Converted.{accepted_conjuncts, accepted_items, accepted_references}
 use Rattle.statement_resolution.proofs.lemmas.query.ReferenceLists.{Borrowed}
 use Rattle.statement_resolution.proofs.lemmas.query.ScopeFaults.{select_sum}
-use Rattle.statement_resolution.specs.query.Faults.{item_kinds, reference_faults}
+use Rattle.statement_resolution.specs.Faults.{either}
+use Rattle.statement_resolution.specs.query.Faults.{item_kinds, known_twice, lacks_any, missing_fault}
 use Rattle.catalog_core.specs.query.Fitting.{are_in_place}
 use Rattle.statement_resolution.specs.query.Places.{place_among, placed_item, placed_reference}
 use Rattle.statement_resolution.specs.query.Resolving.{conjunct_parts, reference_parts}
@@ -32,6 +33,8 @@ returns c =
     let s = plain_select c.args.select.now in
     let now = λ (r : Borrowed). r.now in
     let borrowed : map now c.as_slice-2.result.now ≡ tables_of s = ap (map now) c.as_slice-2.ensures.value ∙ c.in_ok-references.ensures.value in
+    let twice : c.names_twice.result ≡ known_twice (tables_of s) =
+    c.names_twice.ensures ∙ ap (λ rs. known_twice (map now rs)) c.as_slice.ensures.value ∙ ap known_twice c.in_ok-references.ensures.value in
     let seen : c.as_slice-3.result.now ≡ seen_columns catalog (tables_of s) = c.as_slice-3.ensures.value ∙ c.in_ok-conjuncts.ensures.seen in
     let count : length c.in_ok-references-2.references.items ≡ length (tables_of s) =
     omega (arith, ap length c.in_ok-references-2.ensures.parts, ap length borrowed, length-map (map now c.as_slice-2.result.now) (placed_reference catalog), length-map c.in_ok-references-2.references.items reference_parts) in
@@ -53,7 +56,8 @@ returns c =
       counted = omega (arith, same_length, c.len.ensures, c.in_ok-references-2.references.ok.0);
       tables = omega (arith, c.len.ensures, count, c.in_ok-references-2.references.ok.0);
       kinds = c.in_ok-items.ensures.kinds ∙ ap (λ (cs : List SeenColumn). item_kinds cs c.as_slice-4.result.now) seen ∙ ap (item_kinds (seen_columns catalog (tables_of s))) c.as_slice-4.ensures.value;
-      faults = select_sum catalog s c.args.faults.now c.table_faults.result c.or.result c.convert_conjuncts.new.faults c.convert_items.new.faults c.as_slice-3.result.now c.as_slice-4.result.now
-          (c.table_faults.ensures ∙ ap (λ rs. reference_faults catalog (map now rs)) c.as_slice.ensures.value ∙ ap (reference_faults catalog) c.in_ok-references.ensures.value)
-          c.or.ensures c.in_ok-conjuncts.ensures.faults seen c.as_slice-4.ensures.value c.in_ok-items.ensures.faults;
+      faults = select_sum catalog s c.args.faults.now c.none.result c.or.result c.convert_references.new.faults c.convert_conjuncts.new.faults c.convert_items.new.faults c.as_slice-3.result.now c.as_slice-4.result.now
+          c.none.ensures (c.or.ensures ∙ ap (λ b. either c.args.faults.now (record c.none.result { twice = b })) twice)
+          (c.in_ok-references-2.ensures.faults ∙ ap (λ rs. either c.or.result (missing_fault (lacks_any catalog rs))) borrowed)
+          c.in_ok-conjuncts.ensures.faults seen c.as_slice-4.ensures.value c.in_ok-items.ensures.faults;
     }

@@ -7,7 +7,7 @@ use Rattle.statement_resolution.specs.Faults.{either}
 use Rattle.statement_resolution.specs.Flaws.{faults_of, is_flawed_portion, is_flawed_set, sets_twice}
 use Rattle.statement_resolution.specs.change.PortionChanges.{is_flawed_update}
 use Rattle.statement_resolution.specs.declared.faults.Faults.{Faults}
-use Rattle.statement_resolution.proofs.change.portion_changes.faults_of_update.Goals as goal
+use Rattle.statement_resolution.proofs.change.portion_changes.update_fault.Goals as goal
 
 pub returns : goal.returns
 returns c =
@@ -19,6 +19,6 @@ returns c =
     c.or.ensures ∙ ap (λ (f : Faults). either f c.sets_faults.result) c.portion_faults.ensures
     ∙ ap (either portion) (c.sets_faults.ensures ∙ ap of c.as_slice-sets.ensures.value) in
     let whole : c.or-parts.result ≡ faults_of (λ flaw. is_flawed_update flaw u t) =
-    c.or-parts.ensures ∙ ap (λ (f : Faults). either f c.where_faults.result) first
-    ∙ ap (either (either portion (of u.assignments))) c.where_faults.ensures ∙ update_judged t u in
-    rw (whole, c.sets_twice.ensures ∙ ap sets_twice c.as_slice-sets.ensures.value) refl
+    c.or-parts.ensures ∙ ap (λ (f : Faults). either f c.args.of_where) first
+    ∙ ap (either (either portion (of u.assignments))) c.requires ∙ update_judged t u in
+    c.first.ensures ∙ rw (whole, c.sets_twice.ensures ∙ ap sets_twice c.as_slice-sets.ensures.value) refl
