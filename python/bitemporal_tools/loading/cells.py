@@ -52,9 +52,8 @@ def whole_number(cell: str, scale: int = 0, decimal: str = '.') -> int:
 
 def are_digits(texts: Sequence[str], most: int) -> bool:
     """Whether cells have digits and nothing else, each at least one and at most so many."""
-    together = ''.join(texts)
-    return together.isascii() and together.isdigit() and '' not in texts \
-        and max(map(len, texts)) <= most
+    lengths, together = set(map(len, texts)), ''.join(texts)
+    return 0 not in lengths and max(lengths) <= most and together.isascii() and together.isdigit()
 
 
 def begins_with_zero(texts: Sequence[str]) -> bool:

@@ -58,20 +58,21 @@ class CsvFile:
     def read_plain(self, text: str, delimiter: str) -> bool:
         """Reads a text of lines with as many fields as the header has, which are several, if none
         is in quotes, in a third of the time. Gives whether it is such a text."""
-        head, _, rest = text.partition('\n')
-        rest = rest[:-1] if rest.endswith('\n') else rest
-        if not rest or delimiter not in head or any(sign in text for sign in '"\r\0') \
-                or has_long_line(rest):
+        head = text[:text.find('\n')].split(delimiter)
+        if len(head) < 2 or any(sign in text for sign in '"\r\0') or has_long_line(text):
             return False
-        cells = rest.replace('\n', f'{delimiter}\n').split(delimiter)
-        header = [name.strip() for name in head.split(delimiter)]
+        cells = text.replace('\n', f'{delimiter}\n').split(delimiter)
+        if cells[-1] == '\n':  # after the last line
+            cells.pop()
         # A line begins with the first column if each such cell does, and no other. So none of two
         # fields or more is empty.
-        first = ''.join(cells[::len(header)]).split('\n')
-        if len(first) * len(header) != len(cells) or len(first) != rest.count('\n') + 1:
+        count = len(head)
+        first = ''.join(cells[::count]).split('\n')
+        if len(first) * count != len(cells) or len(first) < 2 or \
+                len(first) + text.endswith('\n') != text.count('\n') + 1:
             return False
-        self.header, self.lines = header, range(2, len(first) + 2)
-        self.columns = [first, *(cells[place::len(header)] for place in range(1, len(header)))]
+        self.header, self.lines = [name.strip() for name in head], range(2, len(first) + 1)
+        self.columns = [first[1:], *(cells[count + place::count] for place in range(1, count))]
         return True
 
     def read(self, text: str, delimiter: str) -> None:

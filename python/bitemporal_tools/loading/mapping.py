@@ -325,8 +325,7 @@ class Mapping:
 
     def judge_periods(self, starts: Sequence[Optional[datetime.date]],
                       ends: Sequence[Optional[datetime.date]]) -> None:
-        if None not in starts and None not in ends and \
-                all(map(operator.lt, starts, ends)):  # type: ignore[arg-type]
+        if not self.file.bad and all(map(operator.lt, starts, ends)):  # type: ignore[arg-type]
             return
         place = self.places[self.table.period.end]
         more = '' if self.options.inclusive_to else \
