@@ -14,7 +14,7 @@ Before it are lines about the moments at which changes are recorded:
     statement 3: no AT stands before this change, so it is recorded at 0001-01-01 00:00:00
                    of the first UPDATE or DELETE; with --store of an INSERT too, if the clock of the
                    store is there, and not with --now
-    statement 3: versions of this very moment that were replaced and are not kept: 1
+    statement 3: versions of this very moment, replaced or deleted and not kept: 1
                    of the first UPDATE or DELETE that ends versions at the moment at which they
                    began; and then how many that were in all. With --store the program itself says
                    this. Else, if a change may have done so, `bitemporal_file` runs the script once

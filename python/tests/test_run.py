@@ -38,9 +38,9 @@ INSERT INTO T VALUES (1, 7, DATE '2024-01-01', DATE '2024-02-01'),
 AT = ["AT TIMESTAMP '2024-03-01 00:00:00';\n", "AT TIMESTAMP '2024-04-01 00:00:00';\n"]
 WITHOUT_AT = ('bitemporal: statement {}: no AT stands before this change, so it is recorded at'
               ' 0001-01-01 00:00:00\n')
-REPLACED = ('{0}: statement {1}: versions of this very moment that were replaced and are not kept:'
-            ' {2}\n{0}: versions replaced at the moment of their recording, and not kept: {3}'
-            ' (an AT between the changes keeps them)\n')
+REPLACED = ('{0}: statement {1}: versions of this very moment, replaced or deleted and not kept:'
+            ' {2}\n{0}: versions replaced or deleted at the moment of their recording, not kept:'
+            ' {3} (an AT between the changes keeps them)\n')
 COUNTS = 'bitemporal: {} statements, {} refused, 0 answers\n'
 WRONG_CAUSES = [
     'Cause: On 2024-01-01 two rows of PAY would have one key. SELECT * FROM PAY WHERE PP CONTAINS',

@@ -200,8 +200,8 @@ class SessionOfAStore(Case):
         terminal.send('\\q\n')
         self.equal('the status', terminal.status(), 0)
         told += terminal.shown
-        self.holds('what is replaced is told', 'statement 3: versions of this very moment that were'
-                   ' replaced and are not kept: 1\n' in told, told)
+        self.holds('what is replaced is told', 'statement 3: versions of this very moment, replaced'
+                   ' or deleted and not kept: 1\n' in told, told)
 
     def test_keys(self) -> None:
         """Ctrl-C and Ctrl-D."""

@@ -42,9 +42,10 @@ SESSIONS = {
 MOMENT, SUM = re.compile(r'\d{4}-\d\d-\d\d \d\d:\d\d:\d\d(?:\.\d{6})?'), re.compile('sum,.*')
 FOREVER = store_files.MICROSECONDS.forever
 OF_STATEMENTS = {'done', 'refused', 'answer', 'columns', 'row', 'versions', 'version', 'audit'}
-OUT, FAULT = '61,Memory,', 'bitemporal_file: 61 Memory'
+FAULT = 'bitemporal_file: 61 Memory'
 NAMELESS = 'bitemporal: 61 Memory'  # before the program knows by which name it is called
-WITHOUT_NUMBERS = 'bitemporal_file: versions were replaced at the moment of their recording'
+WITHOUT_NUMBERS = ('bitemporal_file: versions were replaced or deleted at the moment of their'
+                   ' recording')
 
 
 def run(words, given, **env):
@@ -122,21 +123,27 @@ class Session:
                 [re.sub(r'statement (\d+)', lambda found: f'statement {numbers[int(found[1]) - 1]}',
                         line) for line in told], has)
 
-    def refusal(self, place):
-        """The group of a part that is refused for memory."""
+    def refusals(self, place):
+        """The groups of a part that is refused for memory. A copy is built in files in memory: if
+        these get none, it is refused as by a disk."""
         part = self.parts[place]
-        return [f'command,{re.match("[a-z]*", part[1:])[0]},refused,{OUT}' if part[0] == '.' else
-                f'refused,{self.numbers[place]},{OUT}']
+        if part[0] != '.':
+            return [[f'refused,{self.numbers[place]},61,Memory,']]
+        word = re.match('[a-z]*', part[1:])[0]
+        return [[f'command,{word},refused,61,Memory,'],
+                *[['command,backup,refused,62,Store,']] * (word == 'backup')]
 
     def is_right(self, status, groups, told, has, others):
         """Whether a run of which an allocation is refused ends as it may."""
-        refused = [place for place, group in enumerate(groups) if group == self.refusal(place)]
-        done = tuple(place for place in range(len(groups)) if place not in refused)
+        done = tuple(place for place, group in enumerate(groups)
+                     if group not in self.refusals(place))
         wanted, *left = self.left(done)
-        wanted = [wanted.get(place) or self.refusal(place) for place in range(len(groups))]
+        wanted = [wanted.get(place) or group for place, group in enumerate(groups)]
         for place, group in enumerate(groups):
             if group[-1] == f'audit,{self.numbers[place]},refused,61':
                 wanted[place] = [*wanted[place][:-1], group[-1]]
+        if status == 2 and not groups and not self.before and has == [None, None]:
+            return told in ([FAULT], [NAMELESS]) and not others
         if status == 2:  # the last records may lack some, and what comes next may be done
             after = self.left((*done, len(groups)))[1:] if len(groups) < len(self.parts) else left
             is_cut = groups[:-1] == wanted[:-1] and \
