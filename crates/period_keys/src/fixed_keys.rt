@@ -256,7 +256,7 @@ fn limit_within(
 
 // The literal with which the conditions say that the value at a position of such a row compares so:
 // at its place in the combined row, or at one that equals it.
-fn value_within(
+pub(crate) fn value_within(
     alloc: Global,
     conditions: &[Cond],
     start: usize,
@@ -302,7 +302,11 @@ fn value_by_one(conditions: &[Cond], place: usize, comparison: Comparison) -> Op
 
 // The place, and the others of which the conditions say that their values equal that at it. Each
 // of them but the first needs a condition of its own, so that no more are looked at than there are.
-fn equal_places(alloc: Global, conditions: &[Cond], place: usize) -> Result<Vec<usize>, Memory>
+pub(crate) fn equal_places(
+    alloc: Global,
+    conditions: &[Cond],
+    place: usize,
+) -> Result<Vec<usize>, Memory>
     ensures { IfOk result (λ places. (other : ℕ)
         → Contains places.items other ↔ AreSaidEqual conditions.now place other) }
 {
