@@ -26,6 +26,7 @@ pub mod VersionKeys
 pub mod Fixed
 pub mod FirstHeld
 pub mod EqualPlaces
+pub mod KeyAfter
 pub mod PlanParts
 pub mod FaultFacts
 pub mod Ranged

@@ -107,6 +107,13 @@ pub record IsSaidRange (Says : Comparison → ℕ → Value → Type 0) (positio
       (range.upper ≡ Unbounded)
       (λ next. IsLimitOf (Says LessOrEqual next) (Says Less next) range.upper)
 
+-- the range of a key that is led by what is said of its positions, and has no limits
+pub record IsLedRange (Says : ℕ → Value → Type 0) (positions : List ℕ) (range : KeyRange)
+    : Type 0 where
+  pub leading : HoldsOfFirst (HasValue Says) positions (length range.leading.items)
+  pub lower : range.lower ≡ Unbounded
+  pub upper : range.upper ≡ Unbounded
+
 -- ---- rows that are part of a combined row, whose values begin at a position of it
 
 -- in each combined row that meets the conditions, the row, which has `width` values, has a value at
@@ -130,6 +137,32 @@ abbrev pub IsRangeWithin : List (Tree CompareValues) → ℕ → ℕ → List �
 IsRangeWithin conditions start width positions range =
     (first values rest : List Value) → length first ≡ start → length values ≡ width
     → IsTrue (meets_all conditions (first ++ (values ++ rest)))
+    → is_in_range range (values_at positions values) ≡ true
+
+-- ---- combined rows in which known values stand right before the row's own
+
+-- in each such combined row that meets the conditions, the row has this value at the position
+abbrev pub IsValueAfter
+    : List (Tree CompareValues) → List Value → ℕ → ℕ → ℕ → Value → Type 0
+IsValueAfter conditions known start width position value =
+    (first values rest : List Value) → length (first ++ known) ≡ start → length values ≡ width
+    → IsTrue (meets_all conditions ((first ++ known) ++ (values ++ rest)))
+    → slice_get values position ≡ Some value
+
+-- the conditions fix this key in each such combined row
+abbrev pub FixesKeyAfter
+    : List (Tree CompareValues) → List Value → ℕ → ℕ → List ℕ → List Value → Type 0
+FixesKeyAfter conditions known start width positions key =
+    (first values rest : List Value) → length (first ++ known) ≡ start → length values ≡ width
+    → IsTrue (meets_all conditions ((first ++ known) ++ (values ++ rest)))
+    → values_at positions values ≡ key
+
+-- in each such combined row that meets the conditions the row has its key in the range
+abbrev pub IsRangeAfter
+    : List (Tree CompareValues) → List Value → ℕ → ℕ → List ℕ → KeyRange → Type 0
+IsRangeAfter conditions known start width positions range =
+    (first values rest : List Value) → length (first ++ known) ≡ start → length values ≡ width
+    → IsTrue (meets_all conditions ((first ++ known) ++ (values ++ rest)))
     → is_in_range range (values_at positions values) ≡ true
 
 -- ---- conditions on the places of a combined row
@@ -169,6 +202,19 @@ abbrev pub SaysWithin : List (Tree CompareValues) → ℕ → ℕ → Comparison
 SaysWithin conditions start width comparison position value =
     (position < width) × ((other : ℕ) × AreSaidEqual conditions (start + position) other
     × SomeStates comparison conditions other value)
+
+-- conditions say that the value at a position of the row equals a known one, right before the row
+abbrev pub SaysKnown : List (Tree CompareValues) → List Value → ℕ → ℕ → ℕ → Value → Type 0
+SaysKnown conditions known start width position value =
+    (position < width) × ((before index : ℕ) × (before + length known ≡ start)
+    × AreSaidEqual conditions (start + position) (before + index)
+    × (slice_get known index ≡ Some value))
+
+-- conditions say that the value at a position equals a literal, or a known one
+abbrev pub SaysAfter : List (Tree CompareValues) → List Value → ℕ → ℕ → ℕ → Value → Type 0
+SaysAfter conditions known start width position value =
+    SaysWithin conditions start width Equal position value
+    ⊎ SaysKnown conditions known start width position value
 
 -- ---- places, each but the first by a condition of its own
 

@@ -10,6 +10,7 @@
 //!   `keyed_periods`, `ordered_periods`). `TableIndex` has both, and follows a change all or none.
 //! - `plans` makes a change's plan of the rows of the keys in the range that its condition leaves
 //!   (`fixed_keys`, `key_range`), and of many rows of a key of those near its portion.
+//! - `key_after` finds the range of keys that a join leaves, if the values before it are known.
 //! - A plan is judged by the rows that it touches (`faults`, by `clashes` and `references`), and by
 //!   all references of the catalog (`reference_faults`).
 //! - `table_list` keeps the rows of all tables with the indexes that references need, and
@@ -27,6 +28,7 @@ mod fixed_keys;
 mod gaps;
 mod groups;
 mod key;
+mod key_after;
 mod key_laws;
 mod key_range;
 mod key_rows;
@@ -55,6 +57,7 @@ pub use current_rows::CurrentRows;
 pub use faults::{key_fault, rows_of};
 pub use fixed_keys::{ColumnTest, range_of_key, range_of_key_within};
 pub use key::Key;
+pub use key_after::range_of_key_after;
 pub use key_laws::{clashes_after_change, clashes_are_of_days, uncovered_are_of_days};
 pub use key_range::KeyRange;
 pub use lawful_laws::{
