@@ -109,7 +109,7 @@ def made_table(statement: Statement) -> Optional[str]:
 
 class Explanation:
     """The sentences on a script, given as bytes, and of its report: `texts` of what is refused, and
-    `notes` on statements that are right. `statements` are those of the script, none if it is
+    `notes` on statements that are right. `statements` are the script's, none if it is
     refused as a whole, and `accepted` those that are not refused; `records` and `refusals` are
     those of the report. The script was run over the tables of a catalog. `NotOfScript` if the
     report isn't that of the script."""

@@ -48,7 +48,7 @@ class FactColumns(NamedTuple):
         return columns[0] if len(columns) == 1 else list(zip(*columns))
 
     def facts(self, records: Iterator[tuple[str, ...]]) -> list[Fact]:
-        """The facts, each a state of one of these records."""
+        """The facts, each a state of one of the records."""
         rest = [self.values(name) for name in self.others]
         return list(map(fact_of, zip(
             self.lines, self.moments, zip(*(self.values(name) for name in self.table.key)),

@@ -31,7 +31,7 @@ class Column(NamedTuple):
 
 
 class Reference(NamedTuple):
-    """The columns of a table, and in the same order those of its parent to which they refer."""
+    """The columns of a table, and in the same order the parent's to which they refer."""
     parent: str
     columns: tuple[str, ...]
     parent_columns: tuple[str, ...]

@@ -21,7 +21,7 @@ module _ {T : Type 0} (f : T → Faults) where
       among_append f (tests_of (plain_condition part)) (tests_among (conditions_of (map plain_condition parts)))
       ∙ ap (either (faults_in part)) (of_parts parts)
 
-  -- of a chain of either operator
+  -- the parts of a chain of either operator
   chain_parts : (condition : code.Tree T) (first : Box (code.Tree T)) (others : Vec (code.Tree T))
       → (condition ≡ code.Or first others) ⊎ (condition ≡ code.And first others)
       → faults_in condition ≡ either (faults_in first.value) (faults_among faults_in others.items)
