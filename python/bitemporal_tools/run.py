@@ -50,7 +50,7 @@ from bitemporal_tools.sql.catalog import Catalog
 from bitemporal_tools.sql.lexis import decoded, lexed, pieces
 from bitemporal_tools.stores.asking import scratch
 
-# How many times the bytes of a script the store that it leaves may have.
+# A store that a script leaves may have so many times its bytes.
 GROWTH = 4
 
 
@@ -77,7 +77,7 @@ def tables_of(store: str) -> Catalog:
 
 
 def told_of_replaced(script: bytes) -> list[str]:
-    """What `bitemporal_file` says of the versions that a script's changes replaced, over a store
+    """The lines of `bitemporal_file` about versions that a script's changes replaced, over a store
     that is thrown away."""
     with scratch(GROWTH * len(script)) as folder:
         file = pathlib.Path(folder, 'script.sql')

@@ -38,7 +38,7 @@ SESSIONS = {
         INSERT, UPDATE, '.backup COPY', DELETE, QUERY, '.no', 'SELECT ?', MONTHS[0], '.verify'],
         True),
 }
-# What differs between two runs at the system's time.
+# Texts that differ between two runs at the system's time.
 MOMENT, SUM = re.compile(r'\d{4}-\d\d-\d\d \d\d:\d\d:\d\d(?:\.\d{6})?'), re.compile('sum,.*')
 FOREVER = store_files.MICROSECONDS.forever
 OF_STATEMENTS = {'done', 'refused', 'answer', 'columns', 'row', 'versions', 'version', 'audit'}
@@ -88,7 +88,7 @@ class Session:
         return SUM.sub('sum,', MOMENT.sub('moment', text)) if self.is_timed else text
 
     def kept(self, file):
-        """What is in the file of a store, without what differs between two runs."""
+        """The content of a store's file, without what differs between two runs."""
         try:
             meta, tables, versions = store_files.contents(file)
         except sqlite3.OperationalError:  # there are no tables yet
@@ -180,7 +180,7 @@ def trial(name, library, folder, pool):
 
 
 def trials(folder, pool):
-    """How many sessions passed, and how many failed, each of which is told."""
+    """Counts the sessions that passed and those that failed; each failure is told."""
     library = folder / 'refuse.so'
     subprocess.run(['cc', '-shared', '-fPIC', '-O1', '-o', library, LIBRARY, '-ldl'], check=True)
     program.build()
