@@ -2,6 +2,7 @@
 use Rattle.std.specs.Prelude.{◌≡◌, true, ℕ, ◌<◌, ℤ, ◌<ℤ◌, List, [], ◌+◌, map, length}
 use Rattle.std.specs.Prelude.{slice_index_or}
 use Rattle.std.specs.Prelude.{IsPermutation, IsSorted}
+use Rattle.std.specs.Ordering.{ordering_then}
 use Rattle.std.specs.declared.cmp.Ordering.{Ordering}
 use Rattle.sqlite.specs.View.{is_int}
 use Rattle.sqlite_value.specs.Order.{column, value_cmp}
@@ -25,6 +26,14 @@ InOrder show cmp tree rows =
 -- by the rowid, which is a row's first value
 abbrev pub by_rowid : Row → Row → Ordering
 by_rowid a b = value_cmp (rowid a) (rowid b)
+
+-- by the columns of the key of bt_version: the table, the values, the period start, the system
+-- start
+abbrev pub by_key : Row → Row → Ordering
+by_key a b =
+    ordering_then (value_cmp (column a 1) (column b 1))
+    (ordering_then (value_cmp (column a 2) (column b 2))
+    (ordering_then (value_cmp (column a 3) (column b 3)) (value_cmp (column a 5) (column b 5))))
 
 -- each row begins with an integer
 abbrev pub AreNumbered : List Row → Type 0

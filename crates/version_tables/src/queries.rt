@@ -12,7 +12,7 @@ ghost use Rattle.sqlite.specs.State.{HasCleanDisk};
 ghost use Rattle.version_tables.specs.Giving.{GivesNext, HasGivenRows, IsAfterQuery, HasNotBegun};
 ghost use Rattle.version_tables.specs.Represents.{meta_shown, rowid_shown, table_shown};
 ghost use Rattle.version_tables.specs.Represents.{version_shown};
-ghost use Rattle.version_tables.specs.Rows.{InOrder, by_rowid};
+ghost use Rattle.version_tables.specs.Rows.{InOrder, by_key, by_rowid};
 ghost use Rattle.version_tables.specs.Steps.{FailsWithReason, OnlyReads, ReturnsRows};
 ghost use Rattle.version_tables.specs.declared.selection.Selection.{Selection as AnySelection};
 
@@ -103,12 +103,14 @@ pub fn table_rows<S: Alter>(connection: &mut Connection<S>) -> Result<Vec<Row>, 
     connection.query_all("SELECT id, def FROM bt_table ORDER BY id", &[])
 }
 
-/// The rows of bt_version: each has the table's number, the values' bytes, the two days and the two
-/// moments.
+/// The rows of bt_version by their keys: each has the table's number, the values' bytes, the two
+/// days and the two moments.
 pub fn version_rows<S: Alter>(connection: &mut Connection<S>) -> Result<Vec<Row>, Error>
     requires { connection.old.in_transaction ≡ false }
     ensures shows { ReturnsRows S.Store connection.old connection.new result
         (λ db rows. IsPermutation (map version_shown (db.trees 2)) rows) }
+    ensures ordered { ReturnsRows S.Store connection.old connection.new result
+        (λ db rows. InOrder version_shown by_key (db.trees 2) rows) }
     ensures reads { OnlyReads S.Store connection.old connection.new result }
     ensures mode { connection.new.in_transaction ≡ false }
 {

@@ -1,17 +1,32 @@
-use Rattle.std.proofs.Common.{rules}
+use Rattle.std.proofs.Common.{◌≡◌, ap, rules}
+use Rattle.std.specs.Ordering.{ordering_then}
+use Rattle.std.specs.declared.cmp.Ordering.{Ordering}
+use Rattle.sqlite.specs.Order.{Row}
+use Rattle.sqlite_value.specs.Order.{column, value_cmp}
+use Rattle.sqlite_value.proofs.OrderLemmas.{then-Equal}
+use Rattle.version_tables.specs.Rows.{by_key}
 use Rattle.sqlite.specs.Held.{state}
 use Rattle.std.specs.Prelude.{[]}
 use Rattle.version_tables.specs.Texts.{version_rows_text}
 use Rattle.version_tables.specs.Represents.{version_shown}
-use Rattle.version_tables.proofs.Whole.{order_cmp, all_shown, in_order}
+use Rattle.version_tables.proofs.Whole.{order_cmp, all_shown, in_order, in_order_by}
 use Rattle.version_tables.proofs.Asks.{version_project, version_order, version_names, version_asks}
 use Rattle.version_tables.proofs.Reasons.{version_fails, keeps_faults}
 use Rattle.version_tables.proofs.Selects.{version_reads, query_unchanged, query_keeps}
 use Rattle.version_tables.proofs.queries.version_rows.Goals as goal
 
+-- the order of the query is that of the key
+by_key-is : (x y : Row) → order_cmp 2 version_project version_order x y ≡ by_key x y
+by_key-is x y = ap (λ (o : Ordering). ordering_then (value_cmp (column x 1) (column y 1)) (ordering_then (value_cmp (column x 2) (column y 2)) (ordering_then (value_cmp (column x 3) (column y 3)) o))) (then-Equal (value_cmp (column x 5) (column y 5)))
+
 pub returns-clause-shows : goal.returns-clause-shows
 returns-clause-shows g c clean has =
     in_order version_shown (order_cmp 2 version_project version_order) ((state g.S.Store c.args.connection.now).now.trees 2) c.query_all.result
+    (all_shown version_rows_text 2 version_project version_order version_names version_asks (state g.S.Store c.args.connection.now) (state g.S.Store c.query_all.new.self) has c.query_all.result (c.query_all.ensures.ok clean))
+
+pub returns-clause-ordered : goal.returns-clause-ordered
+returns-clause-ordered g c clean has =
+    in_order_by version_shown _ by_key ((state g.S.Store c.args.connection.now).now.trees 2) by_key-is c.query_all.result
     (all_shown version_rows_text 2 version_project version_order version_names version_asks (state g.S.Store c.args.connection.now) (state g.S.Store c.query_all.new.self) has c.query_all.result (c.query_all.ensures.ok clean))
 
 pub returns-clause-reads : goal.returns-clause-reads
