@@ -1,5 +1,5 @@
 -- Worked rows: two rows that meet share no day of their key, two that overlap by a day share it; a child is uncovered on the day after its parent's last.
-use Rattle.std.proofs.Common.{◌≡◌, ◌+◌, ◌<◌, ◌<ℤ◌, ◌≤ℤ◌, zero, suc, ℤ, pos, true, List, [], ◌∷◌, inl, inr, refl, ap, arith, subst, sym}
+use Rattle.std.proofs.Common.{◌≡◌, ◌<ℤ◌, ◌≤ℤ◌, zero, suc, ℤ, pos, true, List, [], ◌∷◌, inl, inr, refl, ap, arith, subst, sym}
 use Rattle.std.proofs.lemmas.Int.{ints}
 use Rattle.period_core.specs.declared.value.Value.TheVariants.{Int}
 use Rattle.period_core.specs.declared.row.PeriodRow.{PeriodRow}

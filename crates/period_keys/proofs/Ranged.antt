@@ -1,5 +1,5 @@
 -- Keys in a range: in the order of keys they are next to each other, but for some that are passed over.
-use Rattle.std.proofs.Common.{◌≡◌, ◌&&◌, ◌⊎◌, ◌++◌, ◌∷◌, [], ◌∙◌, ◌≤◌, ◌+◌, ℕ, Bool, true, false, cond, List, None, Option, Some, inl, inr, length, length-append, not, take, take_all, drop, filter, refl, sym, ap, ap₂, append-nil, arith, subst}
+use Rattle.std.proofs.Common.{◌≡◌, ◌&&◌, ◌⊎◌, ◌++◌, ◌∷◌, [], ◌∙◌, ◌≤◌, ◌+◌, ℕ, Bool, true, false, cond, List, None, Option, Some, inl, inr, length, not, take, take_all, drop, filter, refl, sym, ap, ap₂, append-nil, arith, subst}
 use Rattle.std.specs.Prelude.{⊤, ◌↔◌, IfSome, IsTrue, MatchOption}
 use Rattle.std.specs.Cmp.{both_ways}
 use Rattle.std.specs.Vec.{vec_len}
@@ -16,7 +16,7 @@ use Rattle.std.specs.BTreeMap.{BTreeMap}
 use Rattle.std.specs.BTreeMap.Range.{entries_between, range_contains}
 use Rattle.std.proofs.lemmas.Bool.{and_parts, false≢true}
 use Rattle.std.proofs.lemmas.Cmp.{tied_itself}
-use Rattle.std.proofs.lemmas.List.{drop_more, take-append-drop, take_at}
+use Rattle.std.proofs.lemmas.List.{drop_more, nil_from_length, take-append-drop, take_at}
 use Rattle.std.proofs.lemmas.Option.{get_or_from_slice_get, slice_get_within}
 use Rattle.std.proofs.lemmas.List.Elements.{Contains-append_right, filter-append, filter_map-append}
 use Rattle.sql_statements.specs.declared.statement.Comparison.TheVariants as comparison
@@ -34,7 +34,7 @@ use Rattle.period_keys.specs.declared.key_rows.KeyRows.{KeyRows}
 use Rattle.period_keys.specs.Keys.{values_at}
 use Rattle.period_keys.specs.Ranges.{IfLimited, IsLimitOf, begins_with, first_values, is_above, is_at_lower, is_below, is_in_range, is_passed_over, limit_of, limit_values}
 use Rattle.period_keys.specs.Rows.{AreGrouped, HaveKey, rows_of_groups}
-use Rattle.period_keys.specs.Versions.{has_key_in, version_key}
+use Rattle.period_keys.specs.Versions.{has_key_in}
 use Rattle.period_keys.proofs.Grouped.{Entries, each_alike, rows_in}
 use Rattle.period_keys.proofs.Members.{from_filter}
 
@@ -413,3 +413,43 @@ whole_key range positions values whole is =
     let begins_so = (and_parts (begins_with range.leading.items key) (is_above range.lower next && is_below range.upper next) is).0 in
     let leads : range.leading.items ≡ take n key = (values_eq range.leading.items (take n key)).0 begins_so in
     sym (leads ∙ take_all n key (omega (arith, whole, at_most positions values)))
+
+-- ---- the range of all keys
+
+none_above : (lower : Limit) → is_above lower None ≡ true → lower ≡ Unbounded
+none_above (Included l) h = absurd (false≢true h)
+none_above (Excluded l) h = absurd (false≢true h)
+none_above Unbounded h = refl
+
+none_below : (upper : Limit) → is_below upper None ≡ true → upper ≡ Unbounded
+none_below (Included l) h = absurd (false≢true h)
+none_below (Excluded l) h = absurd (false≢true h)
+none_below Unbounded h = refl
+
+take_none : (key : List Value) → [] ≡ take 0 key
+take_none [] = refl
+take_none (v ∷ key) = refl
+
+-- a range that is made of nothing
+abbrev pub IsOfNothing : KeyRange → Type 0
+IsOfNothing range = (range.leading.items ≡ []) × (range.lower ≡ Unbounded) × (range.upper ≡ Unbounded)
+
+pub nothing_has_all : (range : KeyRange) → IsOfNothing range → (key : List Value) → is_in_range range key ≡ true
+nothing_has_all range nothing key =
+    let leading = range.leading.items in
+    let own = slice_get key (length leading) in
+    ap₂ (λ (a b : Bool). a && b) ((values_eq leading (take (length leading) key)).1 (subst (λ (p : List Value). p ≡ take (length p) key) (sym nothing.0) (take_none key)))
+    (ap₂ (λ (a b : Bool). a && b) (ap (λ (l : Limit). is_above l own) nothing.1) (ap (λ (l : Limit). is_below l own) nothing.2))
+
+-- no leading values, by their number as the list keeps it
+pub none_counted : (range : KeyRange) → vec_len range.leading ≡ 0 → range.leading.items ≡ []
+none_counted range is = nil_from_length range.leading.items (let ok = range.leading.ok.0 in omega (arith, is, ok))
+
+-- one that has the key of no values is made of nothing
+pub all_of_nothing : (range : KeyRange) → is_in_range range [] ≡ true → IsOfNothing range
+all_of_nothing range is =
+    let leading = range.leading.items in
+    let n = length leading in
+    let both = and_parts (begins_with leading []) (is_above range.lower None && is_below range.upper None) is in
+    let limits = and_parts (is_above range.lower None) (is_below range.upper None) both.1 in
+    ((values_eq leading (take n [])).0 both.0 ∙ take_all n [] (omega arith), none_above range.lower limits.0, none_below range.upper limits.1)

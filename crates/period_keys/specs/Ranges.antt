@@ -1,9 +1,8 @@
 -- The keys that conditions leave: those that begin with given values, and have the value after
 -- these within limits.
-use Rattle.std.specs.Prelude.{◌≡◌, ◌&&◌, ◌++◌, ◌∷◌, [], ℕ, Bool, List, MatchOption, None, Option}
+use Rattle.std.specs.Prelude.{◌&&◌, ◌++◌, ◌∷◌, [], Bool, List, None, Option}
 use Rattle.std.specs.Prelude.{Some, false, length, slice_get, take, true}
 use Rattle.std.specs.Ordering.{eq_by_cmp}
-use Rattle.sql_statements.specs.declared.statement.Comparison.{Comparison}
 use Rattle.sql_statements.specs.declared.statement.Comparison.TheVariants.{Equal, Less, LessOrEqual}
 use Rattle.sql_statements.specs.declared.statement.Comparison.TheVariants.{Greater}
 use Rattle.sql_statements.specs.declared.statement.Comparison.TheVariants.{GreaterOrEqual}

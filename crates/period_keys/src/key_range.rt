@@ -1,8 +1,8 @@
 //! The keys that conditions leave: those that begin with given values, and have the value after
 //! these within limits.
 
-ghost use Rattle.std.specs.Prelude.{◌≡◌, ◌↔◌, ◌≤◌, ◌++◌, IfOk, IfSome, IsSome, List, OnOk, length};
-ghost use Rattle.std.specs.Prelude.{option_copied, slice_get, true, ℕ};
+ghost use Rattle.std.specs.Prelude.{◌≡◌, ◌↔◌, ◌≤◌, ◌++◌, IfOk, IfSome, IsSome, IsTrue, List, OnOk};
+ghost use Rattle.std.specs.Prelude.{length, option_copied, slice_get, true, ℕ};
 ghost use Rattle.period_core.specs.declared.value.Value.{Value as ColumnValue};
 ghost use Rattle.period_keys.specs.Keys.{values_at};
 ghost use Rattle.period_keys.specs.Ranges.{first_values, is_above, is_at_lower, is_below};
@@ -68,11 +68,11 @@ impl KeyRange {
         }
     }
 
-    /// Whether the range is made of nothing, so that it has all keys.
-    pub fn is_all(&self) -> bool {
-        self.leading.is_empty()
-            && matches!(self.lower, Limit::Unbounded)
-            && matches!(self.upper, Limit::Unbounded)
+    /// Whether the range has all keys. It does only if it is made of nothing.
+    pub fn is_all(&self) -> bool
+        ensures { IsTrue result ↔ ((key : List ColumnValue) → is_in_range self.now key ≡ true) }
+    {
+        self.leading.is_empty() && is_unbounded(&self.lower) && is_unbounded(&self.upper)
     }
 
     /// The key at these positions, if the range has one key of so many values.
@@ -118,6 +118,13 @@ impl KeyRange {
         push_limit(alloc, &self.lower, &mut values)?;
         Ok(Key::from_vec(values))
     }
+}
+
+// Whether there is no limit.
+fn is_unbounded(limit: &Limit) -> bool
+    ensures { IsTrue result ↔ (limit.now ≡ Limit.Unbounded) }
+{
+    matches!(limit, Limit::Unbounded)
 }
 
 // Whether the key has a value at a place that is within a lower limit.

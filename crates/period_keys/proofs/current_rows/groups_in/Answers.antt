@@ -1,13 +1,11 @@
-use Rattle.std.proofs.Common.{◌≡◌, ◌++◌, ◌∷◌, [], ◌∙◌, List, append_assoc, ap, filter, map, sym, true, false}
+use Rattle.std.proofs.Common.{◌≡◌, ◌++◌, ◌∷◌, [], ◌∙◌, List, append_assoc, ap, filter, map, sym}
 use Rattle.std.specs.Borrow.{Bor}
-use Rattle.std.specs.Map.{values_of}
 use Rattle.std.specs.BTreeMap.Range.{entries_between}
 use Rattle.std.specs.declared.ops.Bound.TheVariants.{Included, Unbounded}
 use Rattle.std.proofs.lemmas.List.{map-append}
 use Rattle.period_core.specs.Order.{values_cmp}
 use Rattle.period_core.specs.declared.value.Value.{Value}
 use Rattle.period_keys.specs.declared.key_rows.KeyRows.{KeyRows}
-use Rattle.period_keys.specs.Ranges.{first_values}
 use Rattle.period_keys.specs.Rows.{rows_of_lists}
 use Rattle.period_keys.proofs.Grouped.{Entries, lists_of_groups}
 use Rattle.period_keys.proofs.Ranged.{found_in, in_more, is_in, out_more}

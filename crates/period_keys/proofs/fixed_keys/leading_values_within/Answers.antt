@@ -1,4 +1,4 @@
-use Rattle.std.proofs.Common.{Some, ◌≡◌, ◌++◌, ◌∷◌, [], ◌∙◌, ℕ, List, length, length-append, take, get_or, sym, ap, arith, refl, subst}
+use Rattle.std.proofs.Common.{Some, ◌≡◌, ◌++◌, ◌∷◌, [], ◌∙◌, ℕ, List, length, length-append, take, get_or, sym, ap, arith, subst}
 use Rattle.std.specs.Prelude.{Option}
 use Rattle.std.specs.List.{filter_map, slice_get}
 use Rattle.std.proofs.lemmas.List.{take_more}

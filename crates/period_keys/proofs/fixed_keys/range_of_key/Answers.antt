@@ -1,17 +1,17 @@
-use Rattle.std.proofs.Common.{◌≡◌, ◌∙◌, ◌≤◌, Some, None, List, ℕ, ap, arith, length, refl, sym, subst, take, true}
+use Rattle.std.proofs.Common.{◌≡◌, ◌∙◌, Some, None, ℕ, ap, arith, length, refl, sym, subst, take, true}
 use Rattle.std.specs.Prelude.{MatchOption, Option, slice_get}
 use Rattle.std.specs.Global.{Vec}
 use Rattle.std.proofs.lemmas.Option.{slice_get_past, slice_get_read}
 use Rattle.sql_statements.specs.Plain.{plain_condition}
 use Rattle.sql_statements.specs.declared.statement.Comparison.{Comparison}
 use Rattle.sql_statements.specs.declared.statement.Comparison.TheVariants.{Equal, Less, LessOrEqual, Greater, GreaterOrEqual}
-use Rattle.catalog_core.specs.Conditions.{compared, is_satisfied}
+use Rattle.catalog_core.specs.Conditions.{compared}
 use Rattle.period_core.specs.declared.value.Value.{Value}
 use Rattle.period_keys.specs.declared.key_range.KeyRange.{KeyRange}
 use Rattle.period_keys.specs.declared.key_range.Limit.TheVariants.{Unbounded}
 use Rattle.period_keys.specs.FixedKeys.{HasValue, HoldsOfFirst, States}
 use Rattle.period_keys.specs.Keys.{values_at}
-use Rattle.period_keys.specs.Ranges.{IsLimitOf, is_above, is_below}
+use Rattle.period_keys.specs.Ranges.{IsLimitOf}
 use Rattle.period_keys.proofs.Fixed.{states_holds}
 use Rattle.period_keys.proofs.Ranged.{above_limited, below_limited, if_limited, in_range, led_in_range, said_limited}
 use Rattle.period_keys.proofs.fixed_keys.range_of_key.Goals as goal

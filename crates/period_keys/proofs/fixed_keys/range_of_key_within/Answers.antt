@@ -1,4 +1,4 @@
-use Rattle.std.proofs.Common.{◌≡◌, ◌∙◌, ◌≤◌, Some, None, List, ℕ, ap, arith, length, refl, sym, subst, take, true}
+use Rattle.std.proofs.Common.{◌≡◌, ◌∙◌, Some, None, ℕ, ap, arith, length, refl, sym, subst, take, true}
 use Rattle.std.specs.Prelude.{MatchOption, Option, slice_get}
 use Rattle.std.specs.Global.{Vec}
 use Rattle.std.proofs.lemmas.Option.{slice_get_past, slice_get_read}
@@ -10,7 +10,7 @@ use Rattle.period_keys.specs.declared.key_range.KeyRange.{KeyRange}
 use Rattle.period_keys.specs.declared.key_range.Limit.TheVariants.{Unbounded}
 use Rattle.period_keys.specs.FixedKeys.{ComparesWithin, HasValue, HoldsOfFirst, SaysWithin}
 use Rattle.period_keys.specs.Keys.{values_at}
-use Rattle.period_keys.specs.Ranges.{IsLimitOf, is_above, is_below}
+use Rattle.period_keys.specs.Ranges.{IsLimitOf}
 use Rattle.period_keys.proofs.Ranged.{above_limited, below_limited, if_limited, in_range, led_in_range}
 use Rattle.period_keys.proofs.fixed_keys.range_of_key_within.Goals as goal
 

@@ -1,4 +1,4 @@
-use Rattle.std.proofs.Common.{Some, true, ◌≡◌, ◌+◌, ◌++◌, ◌∙◌, ℕ, List, ap, arith, get_or, inl, inr, refl, subst, sym}
+use Rattle.std.proofs.Common.{Some, true, ◌≡◌, ◌+◌, ◌++◌, ◌∙◌, ℕ, List, ap, arith, get_or, inl, inr, subst, sym}
 use Rattle.std.specs.List.{Contains}
 use Rattle.std.specs.Prelude.{Option, slice_get}
 use Rattle.catalog_core.specs.Conditions.{compared}

@@ -1,4 +1,4 @@
-use Rattle.std.proofs.Common.{◌≡◌, ◌&&◌, ◌∙◌, Bool, List, ap, ap₂, subst, sym}
+use Rattle.std.proofs.Common.{◌≡◌, ◌∙◌, List, subst, sym}
 use Rattle.std.specs.Prelude.{◌↔◌, IsTrue, length, slice_get, take}
 use Rattle.period_core.specs.declared.value.Value.{Value}
 use Rattle.period_keys.specs.Ranges.{begins_with, is_at_lower}

@@ -1,4 +1,4 @@
-use Rattle.std.proofs.Common.{◌≡◌, ◌∙◌, ◌≤◌, arith, length, sym}
+use Rattle.std.proofs.Common.{◌∙◌, arith, sym}
 use Rattle.period_keys.proofs.Ranged.{whole_key}
 use Rattle.period_keys.proofs.key_range.KeyRange.whole_key.Goals as goal
 
