@@ -19,8 +19,11 @@ use Rattle.command_line.specs.Reading.{read_of}
 use Rattle.command_line.specs.declared.fault.RunFault.{RunFault}
 use Rattle.command_line.specs.declared.fault.RunFault.TheVariants.{Memory, Read, Script}
 use Rattle.bitemporal_file.specs.Reporting.{EndsAtRefusal, IsReportFault, ReceivesResults, greatest_from, texts_from}
-use Rattle.bitemporal_file.specs.ScriptRuns.{AllButLast, AreOfReaders, AreRun, Ends, IsWhole, LeadsTo, MayRefuseNext, ScriptRun, reports, results_of}
+use Rattle.bitemporal_file.specs.ScriptRuns.{AllButLast, AreOfReaders, AreRun, Ends, IsWhole, LeadsTo, MayRefuseNext, ScriptRun, reports, results_of, tally_after}
 use Rattle.bitemporal_file.specs.declared.reporter.Reporter.{Reporter}
+use Rattle.bitemporal_file.specs.Notes.{tally_from}
+use Rattle.bitemporal_file.specs.declared.notes.Tally.{Tally}
+use Rattle.bitemporal_file.proofs.NoteFacts.{told_then}
 use Rattle.bitemporal_file.proofs.ReporterFacts.{greatest-more, refusal-more}
 
 -- ---- one script
@@ -43,15 +46,17 @@ read_refusal (Some all) script items refusal same bytes may = subst (λ (text : 
 pub same_refusal : (refusal other : Refusal) → Script refusal ≡ Script other → refusal ≡ other
 same_refusal refusal other is = cc
 
-module _ {W K : Type 0} (contents : W → Option (List ℕ)) (text : ℕ → K → List ℕ) (status : K → ℕ) where
+module _ {W N K : Type 0} (contents : W → Option (List ℕ)) (errors : N → Option (List ℕ)) (text : ℕ → K → List ℕ) (status : K → ℕ) (forgotten : K → ℕ) where
   -- nothing was run
-  pub none_run : (readers : List (Option (List ℕ))) (old : Reporter W) (next : ℕ) (fault : RunFault) → old.fault ≡ None → ((refusal : Refusal) → fault ≡ Script refusal → MayRefuseNext {K = K} readers [] refusal) →
-      Ends contents text status readers old [] (Err fault) (record old { next = next })
+  pub none_run : (readers : List (Option (List ℕ))) (old : Reporter W N) (next : ℕ) (fault : RunFault) → old.fault ≡ None → ((refusal : Refusal) → fault ≡ Script refusal → MayRefuseNext {K = K} readers [] refusal) →
+      Ends contents errors text status forgotten readers old [] (Err fault) (record old { next = next })
   none_run readers old next fault quiet may = record {
     stops = refl;
     unused = λ is. (is, refl);
     worst = refl;
     low = λ low. low;
+    tally = refl;
+    told = inl (refl, refl);
     written = λ none. Appends-nil (contents old.out);
     faulty = rw quiet tt;
     whole = λ on. let no : ⊥ = cc in absurd no;
@@ -63,12 +68,14 @@ module _ {W K : Type 0} (contents : W → Option (List ℕ)) (text : ℕ → K �
       is_fault refusal is = cc
 
   -- no script was named yet
-  pub none_yet : (old : Reporter W) → old.fault ≡ None → Ends {K = K} contents text status [] old [] (Ok true) old
+  pub none_yet : (old : Reporter W N) → old.fault ≡ None → Ends {K = K} contents errors text status forgotten [] old [] (Ok true) old
   none_yet old quiet = record {
     stops = refl;
     unused = λ is. (is, refl);
     worst = refl;
     low = λ low. low;
+    tally = refl;
+    told = inl (refl, refl);
     written = λ none. Appends-nil (contents old.out);
     faulty = rw quiet tt;
     whole = λ on. (refl, λ stops. All-nil (λ r. status r ≡ 0));
@@ -90,13 +97,15 @@ module _ {W K : Type 0} (contents : W → Option (List ℕ)) (text : ℕ → K �
   no_fault (Some x) same some = cc
 
   -- a script whose report met no fault
-  pub one_ended : (known : Option (List ℕ)) (script : List ℕ) (old : Reporter W) (results : List K) (goes_on : Bool) (new : Reporter W) → new.fault ≡ None → ReceivesResults contents text status (record old { next = 1 }) results goes_on new →
-      Ends contents text status (known ∷ []) old (one script results goes_on) (Ok goes_on) new
+  pub one_ended : (known : Option (List ℕ)) (script : List ℕ) (old : Reporter W N) (results : List K) (goes_on : Bool) (new : Reporter W N) → new.fault ≡ None → ReceivesResults contents errors text status forgotten (record old { next = 1 }) results goes_on new →
+      Ends contents errors text status forgotten (known ∷ []) old (one script results goes_on) (Ok goes_on) new
   one_ended known script old results goes_on new quiet told = record {
     stops = told.stops;
     unused = λ is. let (was, none) = told.unused is in (was, append-nil results ∙ none);
     worst = told.worst ∙ ap (greatest_from status old.worst) (sym (append-nil results));
     low = told.low;
+    tally = told.tally;
+    told = told.told;
     written = λ none. subst (Appends (contents old.out) (contents new.out)) (sym (append-nil (texts_from text 1 results))) (told.written none).0;
     faulty = rw quiet tt;
     whole = λ is.
@@ -125,13 +134,13 @@ module _ {W K : Type 0} (contents : W → Option (List ℕ)) (text : ℕ → K �
   its_own None its is may = let no : ⊥ = cc in absurd no
   its_own (Some f) its is may = let same : f ≡ its = cc in subst IsReportFault same may
 
-  pub faulty_flow : (goes_on : Bool) (old new : Reporter W) (results : List K) (fault : RunFault) → new.fault ≡ Some fault → ReceivesResults contents text status old results goes_on new → IfSome new.fault IsReportFault
+  pub faulty_flow : (goes_on : Bool) (old new : Reporter W N) (results : List K) (fault : RunFault) → new.fault ≡ Some fault → ReceivesResults contents errors text status forgotten old results goes_on new → IfSome new.fault IsReportFault
   faulty_flow false old new results fault is told = (told.off refl).0
   faulty_flow true old new results fault is told = rw (told.on refl).0 tt
 
   -- a script whose report met one
-  pub one_faulty : (known : Option (List ℕ)) (script : List ℕ) (old : Reporter W) (results : List K) (goes_on : Bool) (new : Reporter W) (fault : RunFault) → new.fault ≡ Some fault → ReceivesResults contents text status (record old { next = 1 }) results goes_on new →
-      Ends contents text status (known ∷ []) old (one script results goes_on) (Err fault) new
+  pub one_faulty : (known : Option (List ℕ)) (script : List ℕ) (old : Reporter W N) (results : List K) (goes_on : Bool) (new : Reporter W N) (fault : RunFault) → new.fault ≡ Some fault → ReceivesResults contents errors text status forgotten (record old { next = 1 }) results goes_on new →
+      Ends contents errors text status forgotten (known ∷ []) old (one script results goes_on) (Err fault) new
   one_faulty known script old results goes_on new fault is told =
       let may = faulty_flow goes_on (record old { next = 1 }) new results fault is told in
       record {
@@ -139,6 +148,8 @@ module _ {W K : Type 0} (contents : W → Option (List ℕ)) (text : ℕ → K �
         unused = λ is. let (was, none) = told.unused is in (was, append-nil results ∙ none);
         worst = told.worst ∙ ap (greatest_from status old.worst) (sym (append-nil results));
         low = told.low;
+        tally = told.tally;
+        told = told.told;
         written = λ none. let no : ⊥ = cc in absurd no;
         faulty = its_fault new.fault fault is may;
         whole = λ on. let no : ⊥ = cc in absurd no;
@@ -156,6 +167,10 @@ module _ {W K : Type 0} (contents : W → Option (List ℕ)) (text : ℕ → K �
   pub results-more : (runs more : List (ScriptRun K)) → results_of (runs ++ more) ≡ results_of runs ++ results_of more
   results-more [] more = refl
   results-more (run ∷ runs) more = ap (λ rest. run.results ++ rest) (results-more runs more) ∙ sym (append_assoc run.results (results_of runs) (results_of more))
+
+  tallies-more : (tally : Tally) (runs more : List (ScriptRun K)) → tally_after forgotten tally (runs ++ more) ≡ tally_after forgotten (tally_after forgotten tally runs) more
+  tallies-more tally [] more = refl
+  tallies-more tally (run ∷ runs) more = tallies-more (tally_from forgotten 1 tally run.results) runs more
 
   pub reports-more : (runs more : List (ScriptRun K)) → reports text (runs ++ more) ≡ reports text runs ++ reports text more
   reports-more [] more = refl
@@ -188,9 +203,9 @@ module _ {W K : Type 0} (contents : W → Option (List ℕ)) (text : ℕ → K �
   next-within (known ∷ readers) rest [] refusal may = may
   next-within (known ∷ readers) rest (run ∷ runs) refusal may = next-within readers rest runs refusal may
 
-  pub ends_more : (readers : List (Option (List ℕ))) (known : Option (List ℕ)) (old : Reporter W) (runs : List (ScriptRun K)) (middle : Reporter W) (more : List (ScriptRun K)) (ended : Result Bool RunFault) (new : Reporter W) →
-      middle.fault ≡ None → Ends contents text status readers old runs (Ok true) middle → Ends contents text status (known ∷ []) middle more ended new →
-      Ends contents text status (readers ++ known ∷ []) old (runs ++ more) ended new
+  pub ends_more : (readers : List (Option (List ℕ))) (known : Option (List ℕ)) (old : Reporter W N) (runs : List (ScriptRun K)) (middle : Reporter W N) (more : List (ScriptRun K)) (ended : Result Bool RunFault) (new : Reporter W N) →
+      middle.fault ≡ None → Ends contents errors text status forgotten readers old runs (Ok true) middle → Ends contents errors text status forgotten (known ∷ []) middle more ended new →
+      Ends contents errors text status forgotten (readers ++ known ∷ []) old (runs ++ more) ended new
   ends_more readers known old runs middle more ended new quiet first last =
       let (count, zeros) = first.whole refl in
       record {
@@ -199,8 +214,10 @@ module _ {W K : Type 0} (contents : W → Option (List ℕ)) (text : ℕ → K �
             let (between, none) = last.unused is in
             let (was, nothing) = first.unused between in
             (was, results-more runs more ∙ ap (λ (rs : List K). rs ++ results_of more) nothing ∙ none);
-        worst = last.worst ∙ ap (λ w. greatest_from status w (results_of more)) first.worst ∙ sym (greatest-more contents text status old.worst (results_of runs) (results_of more)) ∙ ap (greatest_from status old.worst) (sym (results-more runs more));
+        worst = last.worst ∙ ap (λ w. greatest_from status w (results_of more)) first.worst ∙ sym (greatest-more contents errors text status forgotten old.worst (results_of runs) (results_of more)) ∙ ap (greatest_from status old.worst) (sym (results-more runs more));
         low = λ low. last.low (first.low low);
+        tally = last.tally ∙ ap (λ t. tally_after forgotten t more) first.tally ∙ sym (tallies-more old.notes.tally runs more);
+        told = told_then errors old.notes middle.notes new.notes first.told last.told;
         written = λ none. subst (Appends (contents old.out) (contents new.out)) (sym (reports-more runs more))
             (Appends-trans (contents old.out) (contents middle.out) (contents new.out) (reports text runs) (reports text more) (first.written quiet) (last.written none));
         faulty = last.faulty;
@@ -212,18 +229,20 @@ module _ {W K : Type 0} (contents : W → Option (List ℕ)) (text : ℕ → K �
         stopped = λ is.
             let (stops, ends) = last.stopped is in
             let stopping : old.stops ≡ true = sym first.stops ∙ stops in
-            (stopping, subst (EndsAtRefusal status) (sym (results-more runs more)) (refusal-more contents text status (results_of runs) (results_of more) (zeros stopping) ends));
+            (stopping, subst (EndsAtRefusal status) (sym (results-more runs more)) (refusal-more contents errors text status forgotten (results_of runs) (results_of more) (zeros stopping) ends));
         refused = λ refusal is. next-more readers known runs more refusal count (last.refused refusal is);
       }
 
   -- scripts that end before the last
-  pub ends_within : (readers rest : List (Option (List ℕ))) (old : Reporter W) (runs : List (ScriptRun K)) (ended : Result Bool RunFault) (new : Reporter W) → (ended ≡ Ok true → ⊥) → Ends contents text status readers old runs ended new →
-      Ends contents text status (readers ++ rest) old runs ended new
+  pub ends_within : (readers rest : List (Option (List ℕ))) (old : Reporter W N) (runs : List (ScriptRun K)) (ended : Result Bool RunFault) (new : Reporter W N) → (ended ≡ Ok true → ⊥) → Ends contents errors text status forgotten readers old runs ended new →
+      Ends contents errors text status forgotten (readers ++ rest) old runs ended new
   ends_within readers rest old runs ended new before ends = record {
     stops = ends.stops;
     unused = ends.unused;
     worst = ends.worst;
     low = ends.low;
+    tally = ends.tally;
+    told = ends.told;
     written = ends.written;
     faulty = ends.faulty;
     whole = λ is. absurd (before is);

@@ -9,6 +9,7 @@ ghost use Rattle.script_engine.specs.engine.Stored.{WasUsable};
 ghost use Rattle.script_engine.specs.declared.script.read_only.ReadOnly.{ReadOnly as ReadOnlyModel};
 ghost use Rattle.command_line.specs.declared.fault.RunFault.TheVariants.{Memory as NoMemory};
 ghost use Rattle.bitemporal_file.specs.Copies.{AnyFile};
+ghost use Rattle.bitemporal_file.specs.Notes.{TellsFirst};
 ghost use Rattle.bitemporal_file.specs.ReadOnly.{AreHeldAt, AreHeldBy, FailsToOpenHeld};
 ghost use Rattle.bitemporal_file.specs.ReadOnly.{DoesAskedReading, IsReadFault};
 ghost use Rattle.bitemporal_file.specs.ReadOnly.{RunsAskedReading, RunsReading};
@@ -46,6 +47,8 @@ impl<K: Reported> Reported for ReadOnly<K> {
 
     ghost status_of = { λ (only : ReadOnlyModel K). K.status_of only.kept };
 
+    ghost forgotten_of = { λ only. 0 };
+
     ghost refused = { read_only_refusal K.refused };
 
     fn write_records<W: Write>(
@@ -59,6 +62,10 @@ impl<K: Reported> Reported for ReadOnly<K> {
 
     fn status(&self) -> u8 {
         self.kept.status()
+    }
+
+    fn forgotten(&self) -> u64 {
+        0
     }
 
     fn of_refusal(refusal: Refusal) -> ReadOnly<K> {
@@ -153,18 +160,18 @@ fn open_read<Q: Scripts + Places>(
 
 // Runs what is asked for over the store of a connection, with an audit of each answer, or without.
 // Gives the connection back.
-fn run_reading<S: Alter, C: System, Q: Scripts, R: Read, W: Write>(
+fn run_reading<S: Alter, C: System, Q: Scripts, R: Read, W: Write, E: Write>(
     alloc: Global,
     connection: Connection<S>,
     system: &C,
     scripts: &Q,
     asked: &Request,
     input: &mut Tracked<R>,
-    reporter: &mut Reporter<W>,
+    reporter: &mut Reporter<W, E>,
 ) -> Result<(Result<bool, RunFault>, Connection<S>), (Refusal, Connection<S>)>
     requires settled { connection.in_transaction ≡ false }
     requires fresh { reporter.old.fault ≡ None }
-    ensures ran { IfOk result (λ ended. RunsReading S.Store C.made W.contents
+    ensures ran { IfOk result (λ ended. RunsReading S.Store C.made W.contents E.contents
         asked.now.audits
         (map (Q.content scripts.now) (map string_bytes asked.now.files.items))
         (R.remaining input.old.inner) input.new.has_failed
@@ -172,17 +179,18 @@ fn run_reading<S: Alter, C: System, Q: Scripts, R: Read, W: Write>(
     ensures usable { IfOk result (λ ended. WasUsable S.Store connection ended.1) }
     ensures others { IfOk result (λ ended. SparesOthers S.Store connection ended.1) }
     ensures low { reporter.old.worst ≤ 3 → reporter.new.worst ≤ 3 }
+    ensures told { TellsFirst E.contents reporter.old.notes reporter.new.notes }
     ensures refused { IfErr result (λ failed.
         RefusesStore S.Store connection failed.0 failed.1
         × (reporter.new ≡ reporter.old) × (input.new ≡ input.old)) }
 {
     let files = asked.files.as_slice();
     if asked.audits {
-        run_store::<S, ReadOnly<Entry>, C, Q, R, W>(
+        run_store::<S, ReadOnly<Entry>, C, Q, R, W, E>(
             alloc, connection, system, scripts, files, input, reporter,
         )
     } else {
-        run_store::<S, ReadOnly<Result<Outcome, Refusal>>, C, Q, R, W>(
+        run_store::<S, ReadOnly<Result<Outcome, Refusal>>, C, Q, R, W, E>(
             alloc, connection, system, scripts, files, input, reporter,
         )
     }
@@ -190,25 +198,26 @@ fn run_reading<S: Alter, C: System, Q: Scripts, R: Read, W: Write>(
 
 // Runs what is asked for over the store that is named, of which only the files are read, with
 // `--stop` as the report has it. Gives the exit status.
-fn read_over<Q: Scripts + Places, R: Read, W: Write>(
+fn read_over<Q: Scripts + Places, R: Read, W: Write, E: Write>(
     rt: &HostRuntime,
     alloc: Global,
     files: &Q,
     asked: &Request,
     input: &mut Tracked<R>,
-    reporter: &mut Reporter<W>,
+    reporter: &mut Reporter<W, E>,
 ) -> Result<u8, RunFault>
     requires unused { IsUnused reporter.old }
-    ensures ran { RunsAskedReading ⟦<Held as Store>⟧ AnyFile W.contents
+    ensures ran { RunsAskedReading ⟦<Held as Store>⟧ AnyFile W.contents E.contents
         (reading ⟦<Memory as Disk>⟧ (AreHeldBy (Q.leads_to files.now (string_bytes asked.now.store))
         (Q.content files.now) (Q.may_lack files.now)))
         (Q.content files.now) (λ unread. R.remaining unread.inner)
         (λ unread. unread.has_failed) asked.now
         reporter.old input.old result reporter.new input.new }
     ensures low { reporter.old.worst ≤ 3 → IfOk result (λ status. status ≤ 3) }
+    ensures told { TellsFirst E.contents reporter.old.notes reporter.new.notes }
 {
     let connection = open_read(rt, alloc, files, asked.store.as_str(), asked.wait)?;
-    let ran = run_reading::<Held, HostRuntime, Q, R, W>(
+    let ran = run_reading::<Held, HostRuntime, Q, R, W, E>(
         alloc, connection, rt, files, asked, input, reporter,
     );
     match ran {
@@ -226,13 +235,13 @@ fn read_over<Q: Scripts + Places, R: Read, W: Write>(
 
 // Tells what is asked of the store that is named, of which only the files are read. Gives the exit
 // status.
-fn inspect_read<Q: Scripts + Places, W: Write>(
+fn inspect_read<Q: Scripts + Places, W: Write, E: Write>(
     rt: &HostRuntime,
     alloc: Global,
     files: &Q,
     asked: &Request,
     inspection: Inspection,
-    reporter: &mut Reporter<W>,
+    reporter: &mut Reporter<W, E>,
 ) -> Result<u8, RunFault>
     requires { IsUnused reporter.old }
     ensures inspects { Inspects ⟦<Held as Store>⟧ W.contents
@@ -240,6 +249,7 @@ fn inspect_read<Q: Scripts + Places, W: Write>(
         (Q.content files.now) (Q.may_lack files.now))) inspection
         reporter.old result reporter.new }
     ensures low { IfOk result (λ status. status ≤ 3) }
+    ensures told { TellsFirst E.contents reporter.old.notes reporter.new.notes }
 {
     let connection = open_read(rt, alloc, files, asked.store.as_str(), asked.wait)?;
     match inspect_store(alloc, connection, inspection, &mut reporter.out) {
@@ -257,22 +267,23 @@ fn inspect_read<Q: Scripts + Places, W: Write>(
 
 /// Does what is asked for over the store that is named, of which only the files are read. Gives the
 /// exit status.
-pub(crate) fn read_asked<Q: Scripts + Places, R: Read, W: Write>(
+pub(crate) fn read_asked<Q: Scripts + Places, R: Read, W: Write, E: Write>(
     rt: &HostRuntime,
     alloc: Global,
     files: &Q,
     asked: &Request,
     input: &mut Tracked<R>,
-    reporter: &mut Reporter<W>,
+    reporter: &mut Reporter<W, E>,
 ) -> Result<u8, RunFault>
     requires { IsUnused reporter.old }
-    ensures done { DoesAskedReading ⟦<Held as Store>⟧ AnyFile W.contents
+    ensures done { DoesAskedReading ⟦<Held as Store>⟧ AnyFile W.contents E.contents
         (reading ⟦<Memory as Disk>⟧ (AreHeldBy (Q.leads_to files.now (string_bytes asked.now.store))
         (Q.content files.now) (Q.may_lack files.now)))
         (Q.content files.now) (λ unread. R.remaining unread.inner)
         (λ unread. unread.has_failed) asked.now
         reporter.old input.old result reporter.new input.new }
     ensures low { reporter.old.worst ≤ 3 → IfOk result (λ status. status ≤ 3) }
+    ensures told { TellsFirst E.contents reporter.old.notes reporter.new.notes }
 {
     if let Some(inspection) = inspection_of(asked) {
         return inspect_read(rt, alloc, files, asked, inspection, reporter);

@@ -13,7 +13,7 @@ invariant-loop-name g l = record {
   ran : (runs : List (ScriptRun g.row.K.Denot))
       × AreOfReaders (map (g.Q.Scripts.content l.scripts) (map string_bytes (take l.name-index l.names))) runs
       × All IsWhole runs
-      × Ends g.W.Write.contents g.K.Reported.text g.K.Reported.status_of (map (g.Q.Scripts.content l.scripts) (map string_bytes (take l.name-index l.names))) l.fn.reporter runs (Ok true) l.reporter
+      × Ends g.W.Write.contents g.E.Write.contents g.K.Reported.text g.K.Reported.status_of g.K.Reported.forgotten_of (map (g.Q.Scripts.content l.scripts) (map string_bytes (take l.name-index l.names))) l.fn.reporter runs (Ok true) l.reporter
       × LeadsTo g.K.PieceResult.is_step_over l.fn.engine runs l.engine
       × (IsUsable g.S.Store l.engine.connection → (history : History) → EngineRepresents g.S.Store history l.fn.engine → RepresentsSome g.S.Store (LeadsTo g.K.PieceResult.is_step history runs) l.engine);
 }

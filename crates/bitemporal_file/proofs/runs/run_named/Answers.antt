@@ -11,7 +11,7 @@ returns-in-Ok-clause-ran g c =
       runs,
       subst (λ (known : Option (List ℕ)). AreOfReaders (known ∷ []) runs) same are,
       run,
-      subst (λ (known : Option (List ℕ)). Ends g.W.Write.contents g.K.Reported.text g.K.Reported.status_of (known ∷ []) c.args.reporter.now runs c.run_script.result c.run_script.new.reporter) same ends,
+      subst (λ (known : Option (List ℕ)). Ends g.W.Write.contents g.E.Write.contents g.K.Reported.text g.K.Reported.status_of g.K.Reported.forgotten_of (known ∷ []) c.args.reporter.now runs c.run_script.result c.run_script.new.reporter) same ends,
       over,
       did,
     )
@@ -21,7 +21,7 @@ returns-in-Err-clause-ran g c = (
   [],
   tt,
   none_ran _ _,
-  none_run g.W.Write.contents g.K.Reported.text g.K.Reported.status_of _ c.args.reporter.now c.args.reporter.now.next _ c.requires (λ refusal is. let no : ⊥ = cc in absurd no),
+  none_run g.W.Write.contents g.E.Write.contents g.K.Reported.text g.K.Reported.status_of g.K.Reported.forgotten_of _ c.args.reporter.now c.args.reporter.now.next _ c.requires (λ refusal is. let no : ⊥ = cc in absurd no),
   refl,
   λ usable history stands. (history, refl, stands),
 )
