@@ -29,7 +29,16 @@ fn run_second(rt: &HostRuntime, words: &[String]) -> u8 {
         );
     };
     let mut input = Tracked::new(blocks);
-    run_file_program(alloc, words, &mut stores, rt, &mut input, &mut report)
+    let mut scripts = ScriptFiles::new(rt);
+    run_file_program(
+        alloc,
+        words,
+        &mut stores,
+        rt,
+        &mut scripts,
+        &mut input,
+        &mut report,
+    )
 }
 
 fn main(rt: HostRuntime) -> ExitCode {

@@ -1,6 +1,6 @@
 -- Scripts that are run one after the other.
 use Rattle.std.proofs.Common.{◌≡◌, ◌≢◌, ◌<◌, ◌⊎◌, ◌+◌, ◌++◌, ◌∷◌, ◌∙◌, ℕ, Bool, List, [], Option, None, Some, Result, Ok, Err, All, drop, get_or, length, map, take, false, true, ap, arith, inl, inr, refl, subst, sym, append_assoc}
-use Rattle.std.specs.Prelude.{IfSome, IsSome}
+use Rattle.std.specs.Prelude.{IfErr, IfSome, IsSome}
 use Rattle.std.specs.Io.KnownBytes.{Appends}
 use Rattle.std.proofs.KnownBytes.{Appends-nil, Appends-trans}
 use Rattle.std.proofs.lemmas.List.{append-nil, length-append, map-append, take-append-drop, take_more}
@@ -17,9 +17,9 @@ use Rattle.script_engine.specs.engine.Stored.{AreOfHistory, DatabaseRepresents, 
 use Rattle.script_engine.specs.script.Script.{MayRefuseScript, most_bytes}
 use Rattle.command_line.specs.Reading.{read_of}
 use Rattle.command_line.specs.declared.fault.RunFault.{RunFault}
-use Rattle.command_line.specs.declared.fault.RunFault.TheVariants.{Memory, Read, Script}
+use Rattle.command_line.specs.declared.fault.RunFault.TheVariants.{Memory, Read, Script, Write}
 use Rattle.bitemporal_file.specs.Reporting.{EndsAtRefusal, IsReportFault, ReceivesResults, greatest_from, texts_from}
-use Rattle.bitemporal_file.specs.ScriptRuns.{AllButLast, AreOfReaders, AreRun, Ends, IsWhole, LeadsTo, MayRefuseNext, ScriptRun, reports, results_of, tally_after}
+use Rattle.bitemporal_file.specs.ScriptRuns.{AllButLast, AreOfReaders, AreRun, Ends, IsScriptFault, IsWhole, LeadsTo, MayRefuseNext, ScriptRun, reports, results_of, tally_after}
 use Rattle.bitemporal_file.specs.declared.reporter.Reporter.{Reporter}
 use Rattle.bitemporal_file.specs.Notes.{tally_from}
 use Rattle.bitemporal_file.specs.declared.notes.Tally.{Tally}
@@ -27,6 +27,24 @@ use Rattle.bitemporal_file.proofs.NoteFacts.{told_then}
 use Rattle.bitemporal_file.proofs.ReporterFacts.{greatest-more, refusal-more}
 
 -- ---- one script
+
+-- why a script was not read
+pub unread_script : (failed : Bool) (fault : RunFault) → (fault ≡ Memory) ⊎ ((fault ≡ Read) × (failed ≡ true)) → IsScriptFault failed fault
+unread_script failed fault (inl is) = rw is tt
+unread_script failed fault (inr (is, did)) = rw is did
+
+-- why its report was not written
+unwritten_script : (failed : Bool) (fault : RunFault) → IsReportFault fault → IsScriptFault failed fault
+unwritten_script failed fault (inl is) = rw is tt
+unwritten_script failed fault (inr is) = rw is tt
+
+-- a file that has failed has failed later too
+pub failed_later : (failed later : Bool) (fault : RunFault) → (failed ≡ true → later ≡ true) → IsScriptFault failed fault → IsScriptFault later fault
+failed_later failed later Memory stays is = tt
+failed_later failed later Read stays is = stays is
+failed_later failed later Write stays is = tt
+failed_later failed later (Script refusal) stays is = tt
+failed_later failed later _ stays is = absurd is
 
 -- why a script was not read is no refusal
 pub read_fault_is_plain : (has_failed : Bool) (fault : RunFault) (refusal : Refusal) → (fault ≡ Memory) ⊎ ((fault ≡ Read) × (has_failed ≡ true)) → fault ≡ Script refusal → ⊥
@@ -48,9 +66,9 @@ same_refusal refusal other is = cc
 
 module _ {W N K : Type 0} (contents : W → Option (List ℕ)) (errors : N → Option (List ℕ)) (text : ℕ → K → List ℕ) (status : K → ℕ) (forgotten : K → ℕ) where
   -- nothing was run
-  pub none_run : (readers : List (Option (List ℕ))) (old : Reporter W N) (next : ℕ) (fault : RunFault) → old.fault ≡ None → ((refusal : Refusal) → fault ≡ Script refusal → MayRefuseNext {K = K} readers [] refusal) →
-      Ends contents errors text status forgotten readers old [] (Err fault) (record old { next = next })
-  none_run readers old next fault quiet may = record {
+  pub none_run : (readers : List (Option (List ℕ))) (failed : Bool) (old : Reporter W N) (next : ℕ) (fault : RunFault) → old.fault ≡ None → IsScriptFault failed fault → ((refusal : Refusal) → fault ≡ Script refusal → MayRefuseNext {K = K} readers [] refusal) →
+      Ends contents errors text status forgotten readers failed old [] (Err fault) (record old { next = next })
+  none_run readers failed old next fault quiet its may = record {
     stops = refl;
     unused = λ is. (is, refl);
     worst = refl;
@@ -58,6 +76,7 @@ module _ {W N K : Type 0} (contents : W → Option (List ℕ)) (errors : N → O
     tally = refl;
     told = inl (refl, refl);
     written = λ none. Appends-nil (contents old.out);
+    fault = its;
     faulty = rw quiet tt;
     whole = λ on. let no : ⊥ = cc in absurd no;
     stopped = λ off. let no : ⊥ = cc in absurd no;
@@ -68,8 +87,8 @@ module _ {W N K : Type 0} (contents : W → Option (List ℕ)) (errors : N → O
       is_fault refusal is = cc
 
   -- no script was named yet
-  pub none_yet : (old : Reporter W N) → old.fault ≡ None → Ends {K = K} contents errors text status forgotten [] old [] (Ok true) old
-  none_yet old quiet = record {
+  pub none_yet : (failed : Bool) (old : Reporter W N) → old.fault ≡ None → Ends {K = K} contents errors text status forgotten [] failed old [] (Ok true) old
+  none_yet failed old quiet = record {
     stops = refl;
     unused = λ is. (is, refl);
     worst = refl;
@@ -77,6 +96,7 @@ module _ {W N K : Type 0} (contents : W → Option (List ℕ)) (errors : N → O
     tally = refl;
     told = inl (refl, refl);
     written = λ none. Appends-nil (contents old.out);
+    fault = tt;
     faulty = rw quiet tt;
     whole = λ on. (refl, λ stops. All-nil (λ r. status r ≡ 0));
     stopped = λ off. let no : ⊥ = cc in absurd no;
@@ -97,9 +117,9 @@ module _ {W N K : Type 0} (contents : W → Option (List ℕ)) (errors : N → O
   no_fault (Some x) same some = cc
 
   -- a script whose report met no fault
-  pub one_ended : (known : Option (List ℕ)) (script : List ℕ) (old : Reporter W N) (results : List K) (goes_on : Bool) (new : Reporter W N) → new.fault ≡ None → ReceivesResults contents errors text status forgotten (record old { next = 1 }) results goes_on new →
-      Ends contents errors text status forgotten (known ∷ []) old (one script results goes_on) (Ok goes_on) new
-  one_ended known script old results goes_on new quiet told = record {
+  pub one_ended : (known : Option (List ℕ)) (failed : Bool) (script : List ℕ) (old : Reporter W N) (results : List K) (goes_on : Bool) (new : Reporter W N) → new.fault ≡ None → ReceivesResults contents errors text status forgotten (record old { next = 1 }) results goes_on new →
+      Ends contents errors text status forgotten (known ∷ []) failed old (one script results goes_on) (Ok goes_on) new
+  one_ended known failed script old results goes_on new quiet told = record {
     stops = told.stops;
     unused = λ is. let (was, none) = told.unused is in (was, append-nil results ∙ none);
     worst = told.worst ∙ ap (greatest_from status old.worst) (sym (append-nil results));
@@ -107,6 +127,7 @@ module _ {W N K : Type 0} (contents : W → Option (List ℕ)) (errors : N → O
     tally = told.tally;
     told = told.told;
     written = λ none. subst (Appends (contents old.out) (contents new.out)) (sym (append-nil (texts_from text 1 results))) (told.written none).0;
+    fault = tt;
     faulty = rw quiet tt;
     whole = λ is.
         let on : goes_on ≡ true = same_flow goes_on true is in (
@@ -139,9 +160,9 @@ module _ {W N K : Type 0} (contents : W → Option (List ℕ)) (errors : N → O
   faulty_flow true old new results fault is told = rw (told.on refl).0 tt
 
   -- a script whose report met one
-  pub one_faulty : (known : Option (List ℕ)) (script : List ℕ) (old : Reporter W N) (results : List K) (goes_on : Bool) (new : Reporter W N) (fault : RunFault) → new.fault ≡ Some fault → ReceivesResults contents errors text status forgotten (record old { next = 1 }) results goes_on new →
-      Ends contents errors text status forgotten (known ∷ []) old (one script results goes_on) (Err fault) new
-  one_faulty known script old results goes_on new fault is told =
+  pub one_faulty : (known : Option (List ℕ)) (failed : Bool) (script : List ℕ) (old : Reporter W N) (results : List K) (goes_on : Bool) (new : Reporter W N) (fault : RunFault) → new.fault ≡ Some fault → ReceivesResults contents errors text status forgotten (record old { next = 1 }) results goes_on new →
+      Ends contents errors text status forgotten (known ∷ []) failed old (one script results goes_on) (Err fault) new
+  one_faulty known failed script old results goes_on new fault is told =
       let may = faulty_flow goes_on (record old { next = 1 }) new results fault is told in
       record {
         stops = told.stops;
@@ -151,6 +172,7 @@ module _ {W N K : Type 0} (contents : W → Option (List ℕ)) (errors : N → O
         tally = told.tally;
         told = told.told;
         written = λ none. let no : ⊥ = cc in absurd no;
+        fault = unwritten_script failed fault (its_own new.fault fault is may);
         faulty = its_fault new.fault fault is may;
         whole = λ on. let no : ⊥ = cc in absurd no;
         stopped = λ off. let no : ⊥ = cc in absurd no;
@@ -203,10 +225,10 @@ module _ {W N K : Type 0} (contents : W → Option (List ℕ)) (errors : N → O
   next-within (known ∷ readers) rest [] refusal may = may
   next-within (known ∷ readers) rest (run ∷ runs) refusal may = next-within readers rest runs refusal may
 
-  pub ends_more : (readers : List (Option (List ℕ))) (known : Option (List ℕ)) (old : Reporter W N) (runs : List (ScriptRun K)) (middle : Reporter W N) (more : List (ScriptRun K)) (ended : Result Bool RunFault) (new : Reporter W N) →
-      middle.fault ≡ None → Ends contents errors text status forgotten readers old runs (Ok true) middle → Ends contents errors text status forgotten (known ∷ []) middle more ended new →
-      Ends contents errors text status forgotten (readers ++ known ∷ []) old (runs ++ more) ended new
-  ends_more readers known old runs middle more ended new quiet first last =
+  pub ends_more : (readers : List (Option (List ℕ))) (before failed : Bool) (known : Option (List ℕ)) (old : Reporter W N) (runs : List (ScriptRun K)) (middle : Reporter W N) (more : List (ScriptRun K)) (ended : Result Bool RunFault) (new : Reporter W N) →
+      middle.fault ≡ None → Ends contents errors text status forgotten readers before old runs (Ok true) middle → Ends contents errors text status forgotten (known ∷ []) failed middle more ended new →
+      Ends contents errors text status forgotten (readers ++ known ∷ []) failed old (runs ++ more) ended new
+  ends_more readers before failed known old runs middle more ended new quiet first last =
       let (count, zeros) = first.whole refl in
       record {
         stops = last.stops ∙ first.stops;
@@ -220,6 +242,7 @@ module _ {W N K : Type 0} (contents : W → Option (List ℕ)) (errors : N → O
         told = told_then errors old.notes middle.notes new.notes first.told last.told;
         written = λ none. subst (Appends (contents old.out) (contents new.out)) (sym (reports-more runs more))
             (Appends-trans (contents old.out) (contents middle.out) (contents new.out) (reports text runs) (reports text more) (first.written quiet) (last.written none));
+        fault = last.fault;
         faulty = last.faulty;
         whole = λ is.
             let (its, zero) = last.whole is in (
@@ -234,9 +257,9 @@ module _ {W N K : Type 0} (contents : W → Option (List ℕ)) (errors : N → O
       }
 
   -- scripts that end before the last
-  pub ends_within : (readers rest : List (Option (List ℕ))) (old : Reporter W N) (runs : List (ScriptRun K)) (ended : Result Bool RunFault) (new : Reporter W N) → (ended ≡ Ok true → ⊥) → Ends contents errors text status forgotten readers old runs ended new →
-      Ends contents errors text status forgotten (readers ++ rest) old runs ended new
-  ends_within readers rest old runs ended new before ends = record {
+  pub ends_within : (readers rest : List (Option (List ℕ))) (failed : Bool) (old : Reporter W N) (runs : List (ScriptRun K)) (ended : Result Bool RunFault) (new : Reporter W N) → (ended ≡ Ok true → ⊥) → Ends contents errors text status forgotten readers failed old runs ended new →
+      Ends contents errors text status forgotten (readers ++ rest) failed old runs ended new
+  ends_within readers rest failed old runs ended new before ends = record {
     stops = ends.stops;
     unused = ends.unused;
     worst = ends.worst;
@@ -244,11 +267,34 @@ module _ {W N K : Type 0} (contents : W → Option (List ℕ)) (errors : N → O
     tally = ends.tally;
     told = ends.told;
     written = ends.written;
+    fault = ends.fault;
     faulty = ends.faulty;
     whole = λ is. absurd (before is);
     stopped = ends.stopped;
     refused = λ refusal is. next-within readers rest runs refusal (ends.refused refusal is);
   }
+
+  -- files that have failed later too
+  pub ends_later : (readers : List (Option (List ℕ))) (failed later : Bool) (old : Reporter W N) (runs : List (ScriptRun K)) (ended : Result Bool RunFault) (new : Reporter W N) → (failed ≡ true → later ≡ true) → Ends contents errors text status forgotten readers failed old runs ended new →
+      Ends contents errors text status forgotten readers later old runs ended new
+  ends_later readers failed later old runs ended new stays ends = record {
+    stops = ends.stops;
+    unused = ends.unused;
+    worst = ends.worst;
+    low = ends.low;
+    tally = ends.tally;
+    told = ends.told;
+    written = ends.written;
+    fault = its ended ends.fault;
+    faulty = ends.faulty;
+    whole = ends.whole;
+    stopped = ends.stopped;
+    refused = ends.refused;
+  }
+    where
+      its : (result : Result Bool RunFault) → IfErr result (IsScriptFault failed) → IfErr result (IsScriptFault later)
+      its (Ok flow) is = tt
+      its (Err fault) is = failed_later failed later fault stays is
 
 -- ---- runs that came to their ends
 

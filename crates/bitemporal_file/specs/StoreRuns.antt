@@ -80,12 +80,12 @@ module _ {E K W N : Type 0} (IsStep : History → List Lexeme → K → History 
     (refused : Refusal → K) (contents : W → Option (List ℕ)) (errors : N → Option (List ℕ))
     (text : ℕ → K → List ℕ) (status : K → ℕ) (forgotten : K → ℕ)
     (Leads : (History → History → Type 0) → Type 0) (Over : (E → E → Type 0) → Type 0) where
-  -- the scripts that the readers have are run one after the other
-  abbrev pub RunsScripts : List (Option (List ℕ)) → Reporter W N → Result Bool RunFault
+  -- the scripts that the readers have, one of which has failed or not, are run one after the other
+  abbrev pub RunsScripts : List (Option (List ℕ)) → Bool → Reporter W N → Result Bool RunFault
       → Reporter W N → Type 0
-  RunsScripts readers old ended new =
+  RunsScripts readers failed old ended new =
       (runs : List (ScriptRun K)) × AreOfReaders readers runs × AreRun runs ended new.fault
-      × Ends contents errors text status forgotten readers old runs ended new
+      × Ends contents errors text status forgotten readers failed old runs ended new
       × Leads (λ history last. LeadsTo IsStep history runs last)
       × Over (λ first last. LeadsTo IsStepOver first runs last)
 
@@ -105,7 +105,12 @@ module _ {E K W N : Type 0} (IsStep : History → List Lexeme → K → History 
       → Result Bool RunFault → Reporter W N → Type 0
   RunsGiven [] known failed old ended new = RunsSession known failed old ended new
   RunsGiven (reader ∷ readers) known failed old ended new =
-      RunsScripts (reader ∷ readers) old ended new
+      RunsScripts (reader ∷ readers) failed old ended new
+
+-- whether a read failed: of the files of the scripts that are named, or else of the input
+abbrev pub failed_in : {X : Type 0} → List X → (input files : Bool) → Bool
+failed_in [] input files = input
+failed_in (name ∷ names) input files = files
 
 -- a run of results of a kind over the store of a connection, from its opening to its end
 module _ {S K W N : Type 0} (g : Ghosts S) (made : List ℕ → List ℕ → Type 0)

@@ -13,7 +13,7 @@ ghost use Rattle.bitemporal_file.specs.declared.stores.StoreEnd.TheVariants.{Uno
 ghost use Rattle.bitemporal_file.specs.StoreFiles.{IsInFiles, IsItsFault, IsLeftAs, IsUnclosedFor};
 ghost use Rattle.bitemporal_file.specs.StoreFiles.{filing};
 ghost use Rattle.bitemporal_file.specs.StoreRuns.{LeadsDatabase, LeadsEngine, LeadsOver};
-ghost use Rattle.bitemporal_file.specs.StoreRuns.{RefusesStore};
+ghost use Rattle.bitemporal_file.specs.StoreRuns.{RefusesStore, failed_in};
 ghost use Rattle.bitemporal_file.specs.StoreRuns.{RunsAs, RunsAsked, RunsGiven, RunsSession};
 
 use crate::reporter::{Reported, Reporter};
@@ -21,7 +21,7 @@ use crate::runs::run_all;
 use crate::session::run_parts;
 use crate::stores::{Filed, StoreFiles};
 use crate::system::System;
-use command_line::{Request, RunFault, Scripts, Tracked};
+use command_line::{Request, RunFault, ScriptFiles, Scripts, Tracked};
 use period_core::Refusal;
 use script_engine::{Engine, Entry, Noted, Outcome, PieceResult, Timed};
 use sqlite::{Alter, Connection, Start};
@@ -63,7 +63,7 @@ fn run_files<
     alloc: Global,
     engine: &mut Engine<S>,
     system: &C,
-    scripts: &Q,
+    scripts: &mut ScriptFiles<'_, Q>,
     files: &[String],
     input: &mut Tracked<R>,
     reporter: &mut Reporter<W, E>,
@@ -74,8 +74,10 @@ fn run_files<
         W.contents E.contents K.text K.status_of K.forgotten_of
         (LeadsEngine S.Store engine.old engine.new)
         (λ Led. Led engine.old engine.new)
-        (map (Q.content scripts.now) (map string_bytes files.now))
-        (R.remaining input.old.inner) input.new.has_failed reporter.old result reporter.new }
+        (map (Q.content scripts.old.scripts.now) (map string_bytes files.now))
+        (R.remaining input.old.inner)
+        (failed_in files.now input.new.has_failed scripts.new.has_failed)
+        reporter.old result reporter.new }
     ensures low { reporter.old.worst ≤ 3 → reporter.new.worst ≤ 3 }
     ensures told { TellsFirst E.contents reporter.old.notes reporter.new.notes }
     ensures usable { WasUsable S.Store engine.old.connection engine.new.connection }
@@ -102,7 +104,7 @@ pub(crate) fn run_store<
     alloc: Global,
     connection: Connection<S>,
     system: &C,
-    scripts: &Q,
+    scripts: &mut ScriptFiles<'_, Q>,
     files: &[String],
     input: &mut Tracked<R>,
     reporter: &mut Reporter<W, E>,
@@ -115,8 +117,10 @@ pub(crate) fn run_store<
         W.contents E.contents K.text K.status_of K.forgotten_of
         (LeadsDatabase S.Store connection ended.1)
         (LeadsOver S.Store connection ended.1)
-        (map (Q.content scripts.now) (map string_bytes files.now))
-        (R.remaining input.old.inner) input.new.has_failed reporter.old ended.0 reporter.new) }
+        (map (Q.content scripts.old.scripts.now) (map string_bytes files.now))
+        (R.remaining input.old.inner)
+        (failed_in files.now input.new.has_failed scripts.new.has_failed)
+        reporter.old ended.0 reporter.new) }
     ensures usable { IfOk result (λ ended. WasUsable S.Store connection ended.1) }
     ensures others { IfOk result (λ ended. SparesOthers S.Store connection ended.1) }
     ensures closed { IfOk result (λ ended. ended.1.in_transaction ≡ false) }
@@ -145,7 +149,7 @@ fn run_opened<S: Alter, C: System, Q: Scripts, R: Read, W: Write, E: Write>(
     alloc: Global,
     connection: Connection<S>,
     system: &C,
-    scripts: &Q,
+    scripts: &mut ScriptFiles<'_, Q>,
     asked: &Request,
     input: &mut Tracked<R>,
     reporter: &mut Reporter<W, E>,
@@ -154,8 +158,9 @@ fn run_opened<S: Alter, C: System, Q: Scripts, R: Read, W: Write, E: Write>(
     requires fresh { reporter.old.fault ≡ None }
     ensures ran { IfOk result (λ ended. RunsAs S.Store C.made W.contents E.contents
         asked.now.audits asked.now.timed
-        (map (Q.content scripts.now) (map string_bytes asked.now.files.items))
-        (R.remaining input.old.inner) input.new.has_failed
+        (map (Q.content scripts.old.scripts.now) (map string_bytes asked.now.files.items))
+        (R.remaining input.old.inner)
+        (failed_in asked.now.files.items input.new.has_failed scripts.new.has_failed)
         reporter.old connection ended.0 ended.1 reporter.new) }
     ensures usable { IfOk result (λ ended. WasUsable S.Store connection ended.1) }
     ensures others { IfOk result (λ ended. SparesOthers S.Store connection ended.1) }
@@ -214,7 +219,7 @@ pub(crate) fn end_over<S: Start + Copy, T: Drop, W, E>(
 pub(crate) fn run_over<S: Start + Copy, Q: Scripts, R: Read, W: Write, E: Write>(
     alloc: Global,
     stores: &mut StoreFiles<'_, S>,
-    scripts: &Q,
+    scripts: &mut ScriptFiles<'_, Q>,
     asked: &Request,
     input: &mut Tracked<R>,
     reporter: &mut Reporter<W, E>,
@@ -223,8 +228,9 @@ pub(crate) fn run_over<S: Start + Copy, Q: Scripts, R: Read, W: Write, E: Write>
     requires unopened { stores.old.end ≡ Unopened }
     ensures ran { RunsAsked ⟦<Filed<S> as Store>⟧ AnyFile W.contents E.contents
         (filing (image_at S.Start) stores.new.end)
-        (Q.content scripts.now) (λ unread. R.remaining unread.inner)
-        (λ unread. unread.has_failed) asked.now
+        (Q.content scripts.old.scripts.now) (λ unread. R.remaining unread.inner)
+        (λ unread. failed_in asked.now.files.items unread.has_failed scripts.new.has_failed)
+        asked.now
         reporter.old input.old result reporter.new input.new }
     ensures low { reporter.old.worst ≤ 3 → IfOk result (λ status. status ≤ 3) }
     ensures told { TellsFirst E.contents reporter.old.notes reporter.new.notes }

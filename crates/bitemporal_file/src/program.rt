@@ -15,7 +15,7 @@ ghost use Rattle.bitemporal_file.specs.ReadOnly.{AreHeldBy, DoesAskedReading, re
 ghost use Rattle.bitemporal_file.specs.Reporting.{IsUnused};
 ghost use Rattle.bitemporal_file.specs.declared.stores.StoreEnd.TheVariants.{Unopened};
 ghost use Rattle.bitemporal_file.specs.StoreFiles.{filing};
-ghost use Rattle.bitemporal_file.specs.StoreRuns.{DoesAsked, Inspects};
+ghost use Rattle.bitemporal_file.specs.StoreRuns.{DoesAsked, Inspects, failed_in};
 
 use crate::inspections::{Inspection, inspect_store, inspection_of};
 use crate::over::{end_over, run_over};
@@ -23,7 +23,9 @@ use crate::places::Places;
 use crate::read_only::{Held, read_asked};
 use crate::reporter::Reporter;
 use crate::stores::{Filed, StoreFiles};
-use command_line::{ProgramName, Request, RunFault, Scripts, Tracked, end_in, parse_request, show};
+use command_line::{
+    ProgramName, Request, RunFault, ScriptFiles, Scripts, Tracked, end_in, parse_request, show,
+};
 use sqlite::Start;
 use sqlite_disk::{Disk, Memory};
 use sqlite_trees::store::Store;
@@ -89,7 +91,8 @@ fn inspect_asked<S: Start + Copy, W: Write, E: Write>(
 fn run_asked<S: Start + Copy, Q: Scripts + Places, R: Read, W: Write, E: Write>(
     alloc: Global,
     stores: &mut StoreFiles<'_, S>,
-    scripts: &Q,
+    files: &Q,
+    scripts: &mut ScriptFiles<'_, Q>,
     asked: &Request,
     input: &mut Tracked<R>,
     reporter: &mut Reporter<W, E>,
@@ -98,23 +101,27 @@ fn run_asked<S: Start + Copy, Q: Scripts + Places, R: Read, W: Write, E: Write>(
     requires unopened { stores.old.end ≡ Unopened }
     ensures done { asked.now.reads_only ≡ false
         → DoesAsked ⟦<Filed<S> as Store>⟧ AnyFile W.contents E.contents
-        (filing (image_at S.Start) stores.new.end) (Q.content scripts.now)
-        (λ unread. R.remaining unread.inner) (λ unread. unread.has_failed) asked.now
+        (filing (image_at S.Start) stores.new.end) (Q.content scripts.old.scripts.now)
+        (λ unread. R.remaining unread.inner)
+        (λ unread. failed_in asked.now.files.items unread.has_failed scripts.new.has_failed)
+        asked.now
         reporter.old input.old
         result reporter.new input.new }
     ensures read { asked.now.reads_only ≡ true
         → DoesAskedReading ⟦<Held as Store>⟧ AnyFile W.contents E.contents
         (reading ⟦<Memory as Disk>⟧
-        (AreHeldBy (Q.leads_to scripts.now (string_bytes asked.now.store))
-        (Q.content scripts.now) (Q.may_lack scripts.now))) (Q.content scripts.now)
-        (λ unread. R.remaining unread.inner) (λ unread. unread.has_failed) asked.now
+        (AreHeldBy (Q.leads_to files.now (string_bytes asked.now.store))
+        (Q.content files.now) (Q.may_lack files.now))) (Q.content scripts.old.scripts.now)
+        (λ unread. R.remaining unread.inner)
+        (λ unread. failed_in asked.now.files.items unread.has_failed scripts.new.has_failed)
+        asked.now
         reporter.old input.old
         result reporter.new input.new × (stores.new ≡ stores.old) }
     ensures low { reporter.old.worst ≤ 3 → IfOk result (λ status. status ≤ 3) }
     ensures told { TellsFirst E.contents reporter.old.notes reporter.new.notes }
 {
     if asked.reads_only {
-        return read_asked(stores.rt, alloc, scripts, asked, input, reporter);
+        return read_asked(stores.rt, alloc, files, scripts, asked, input, reporter);
     }
     if let Some(inspection) = inspection_of(asked) {
         return inspect_asked::<S, W, E>(alloc, stores, asked, inspection, reporter);
@@ -133,7 +140,8 @@ pub fn run_file_program<S: Start + Copy, Q: Scripts + Places, R: Read, W: Write,
     alloc: Global,
     words: &[String],
     stores: &mut StoreFiles<'_, S>,
-    scripts: &Q,
+    files: &Q,
+    scripts: &mut ScriptFiles<'_, Q>,
     input: &mut Tracked<R>,
     report: &mut Reporter<W, E>,
 ) -> u8
@@ -163,16 +171,18 @@ pub fn run_file_program<S: Start + Copy, Q: Scripts + Places, R: Read, W: Write,
         (E.contents report.old.notes.err.inner) (E.contents report.new.notes.err.inner)
         × (asked.reads_only ≡ false
         → DoesAsked ⟦<Filed<S> as Store>⟧ AnyFile W.contents E.contents
-        (filing (image_at S.Start) stores.new.end) (Q.content scripts.now)
-        (λ unread. R.remaining unread.inner) (λ unread. unread.has_failed) asked report.old
-        input.old ended left input.new)
+        (filing (image_at S.Start) stores.new.end) (Q.content scripts.old.scripts.now)
+        (λ unread. R.remaining unread.inner)
+        (λ unread. failed_in asked.files.items unread.has_failed scripts.new.has_failed)
+        asked report.old input.old ended left input.new)
         × (asked.reads_only ≡ true
         → DoesAskedReading ⟦<Held as Store>⟧ AnyFile W.contents E.contents
         (reading ⟦<Memory as Disk>⟧
-        (AreHeldBy (Q.leads_to scripts.now (string_bytes asked.store))
-        (Q.content scripts.now) (Q.may_lack scripts.now)))
-        (Q.content scripts.now) (λ unread. R.remaining unread.inner)
-        (λ unread. unread.has_failed) asked report.old input.old
+        (AreHeldBy (Q.leads_to files.now (string_bytes asked.store))
+        (Q.content files.now) (Q.may_lack files.now)))
+        (Q.content scripts.old.scripts.now) (λ unread. R.remaining unread.inner)
+        (λ unread. failed_in asked.files.items unread.has_failed scripts.new.has_failed)
+        asked report.old input.old
         ended left input.new × (stores.new ≡ stores.old))) }
 {
     let program = ProgramName::BitemporalFile;
@@ -188,7 +198,7 @@ pub fn run_file_program<S: Start + Copy, Q: Scripts + Places, R: Read, W: Write,
             );
         }
     };
-    let ended = run_asked::<S, Q, R, W, E>(alloc, stores, scripts, &asked, input, report);
+    let ended = run_asked::<S, Q, R, W, E>(alloc, stores, files, scripts, &asked, input, report);
     report.notes.add_up(alloc);
     match ended {
         Ok(status) => status,

@@ -16,7 +16,7 @@ ghost use Rattle.bitemporal_file.specs.ReadOnly.{RunsAskedReading, RunsReading};
 ghost use Rattle.bitemporal_file.specs.ReadOnly.{read_only_refusal, reading};
 ghost use Rattle.bitemporal_file.specs.Reporting.{IsUnused};
 ghost use Rattle.bitemporal_file.specs.StoreFiles.{Finds};
-ghost use Rattle.bitemporal_file.specs.StoreRuns.{Inspects, RefusesStore};
+ghost use Rattle.bitemporal_file.specs.StoreRuns.{Inspects, RefusesStore, failed_in};
 
 use crate::held_files::{HeldFiles, read_held};
 use crate::inspections::{Inspection, inspect_store, inspection_of};
@@ -25,7 +25,7 @@ use crate::places::Places;
 use crate::reporter::{Reported, Reporter};
 use crate::stores::{fault_of, pause, tries_in};
 use crate::system::System;
-use command_line::{Request, RunFault, Scripts, Tracked};
+use command_line::{Request, RunFault, ScriptFiles, Scripts, Tracked};
 use period_core::Refusal;
 use script_engine::{Entry, Outcome, ReadOnly, ReportFault};
 use sqlite::{Alter, Connection, FileStore, Files, Options};
@@ -164,7 +164,7 @@ fn run_reading<S: Alter, C: System, Q: Scripts, R: Read, W: Write, E: Write>(
     alloc: Global,
     connection: Connection<S>,
     system: &C,
-    scripts: &Q,
+    scripts: &mut ScriptFiles<'_, Q>,
     asked: &Request,
     input: &mut Tracked<R>,
     reporter: &mut Reporter<W, E>,
@@ -173,8 +173,9 @@ fn run_reading<S: Alter, C: System, Q: Scripts, R: Read, W: Write, E: Write>(
     requires fresh { reporter.old.fault ≡ None }
     ensures ran { IfOk result (λ ended. RunsReading S.Store C.made W.contents E.contents
         asked.now.audits
-        (map (Q.content scripts.now) (map string_bytes asked.now.files.items))
-        (R.remaining input.old.inner) input.new.has_failed
+        (map (Q.content scripts.old.scripts.now) (map string_bytes asked.now.files.items))
+        (R.remaining input.old.inner)
+        (failed_in asked.now.files.items input.new.has_failed scripts.new.has_failed)
         reporter.old connection ended.0 ended.1 reporter.new) }
     ensures usable { IfOk result (λ ended. WasUsable S.Store connection ended.1) }
     ensures others { IfOk result (λ ended. SparesOthers S.Store connection ended.1) }
@@ -202,6 +203,7 @@ fn read_over<Q: Scripts + Places, R: Read, W: Write, E: Write>(
     rt: &HostRuntime,
     alloc: Global,
     files: &Q,
+    scripts: &mut ScriptFiles<'_, Q>,
     asked: &Request,
     input: &mut Tracked<R>,
     reporter: &mut Reporter<W, E>,
@@ -210,15 +212,16 @@ fn read_over<Q: Scripts + Places, R: Read, W: Write, E: Write>(
     ensures ran { RunsAskedReading ⟦<Held as Store>⟧ AnyFile W.contents E.contents
         (reading ⟦<Memory as Disk>⟧ (AreHeldBy (Q.leads_to files.now (string_bytes asked.now.store))
         (Q.content files.now) (Q.may_lack files.now)))
-        (Q.content files.now) (λ unread. R.remaining unread.inner)
-        (λ unread. unread.has_failed) asked.now
+        (Q.content scripts.old.scripts.now) (λ unread. R.remaining unread.inner)
+        (λ unread. failed_in asked.now.files.items unread.has_failed scripts.new.has_failed)
+        asked.now
         reporter.old input.old result reporter.new input.new }
     ensures low { reporter.old.worst ≤ 3 → IfOk result (λ status. status ≤ 3) }
     ensures told { TellsFirst E.contents reporter.old.notes reporter.new.notes }
 {
     let connection = open_read(rt, alloc, files, asked.store.as_str(), asked.wait)?;
     let ran = run_reading::<Held, HostRuntime, Q, R, W, E>(
-        alloc, connection, rt, files, asked, input, reporter,
+        alloc, connection, rt, scripts, asked, input, reporter,
     );
     match ran {
         Ok((ended, connection)) => {
@@ -271,6 +274,7 @@ pub(crate) fn read_asked<Q: Scripts + Places, R: Read, W: Write, E: Write>(
     rt: &HostRuntime,
     alloc: Global,
     files: &Q,
+    scripts: &mut ScriptFiles<'_, Q>,
     asked: &Request,
     input: &mut Tracked<R>,
     reporter: &mut Reporter<W, E>,
@@ -279,8 +283,9 @@ pub(crate) fn read_asked<Q: Scripts + Places, R: Read, W: Write, E: Write>(
     ensures done { DoesAskedReading ⟦<Held as Store>⟧ AnyFile W.contents E.contents
         (reading ⟦<Memory as Disk>⟧ (AreHeldBy (Q.leads_to files.now (string_bytes asked.now.store))
         (Q.content files.now) (Q.may_lack files.now)))
-        (Q.content files.now) (λ unread. R.remaining unread.inner)
-        (λ unread. unread.has_failed) asked.now
+        (Q.content scripts.old.scripts.now) (λ unread. R.remaining unread.inner)
+        (λ unread. failed_in asked.now.files.items unread.has_failed scripts.new.has_failed)
+        asked.now
         reporter.old input.old result reporter.new input.new }
     ensures low { reporter.old.worst ≤ 3 → IfOk result (λ status. status ≤ 3) }
     ensures told { TellsFirst E.contents reporter.old.notes reporter.new.notes }
@@ -289,5 +294,5 @@ pub(crate) fn read_asked<Q: Scripts + Places, R: Read, W: Write, E: Write>(
         return inspect_read(rt, alloc, files, asked, inspection, reporter);
     }
     reporter.stops = asked.stops;
-    read_over(rt, alloc, files, asked, input, reporter)
+    read_over(rt, alloc, files, scripts, asked, input, reporter)
 }

@@ -9,7 +9,7 @@ ghost use Rattle.bitemporal_file.specs.ScriptRuns.{AreOfReaders, AreRun, Ends, L
 
 use crate::reporter::{Reported, Reporter};
 use crate::system::System;
-use command_line::{RunFault, Scripts, Tracked, read_script};
+use command_line::{RunFault, ScriptFiles, Scripts, Tracked, read_script};
 use period_core::Refusal;
 use script_engine::{Engine, MOST_BYTES, PieceResult, run_over};
 use sqlite::Alter;
@@ -36,7 +36,7 @@ fn run_script<
         × AreOfReaders (R.remaining input.old.inner ∷ []) runs
         × AreRun runs result reporter.new.fault
         × Ends W.contents E.contents K.text K.status_of K.forgotten_of
-        (R.remaining input.old.inner ∷ []) reporter.old runs result reporter.new
+        (R.remaining input.old.inner ∷ []) input.new.has_failed reporter.old runs result reporter.new
         × LeadsTo K.is_step_over engine.old runs engine.new
         × (IsUsable S.Store engine.new.connection
         → (history : History) → EngineRepresents S.Store history engine.old
@@ -67,16 +67,17 @@ fn run_named<
     alloc: Global,
     engine: &mut Engine<S>,
     system: &C,
-    scripts: &Q,
+    scripts: &mut ScriptFiles<'_, Q>,
     name: &str,
     reporter: &mut Reporter<W, E>,
 ) -> Result<bool, RunFault>
     requires { reporter.old.fault ≡ None }
+    ensures same { scripts.new.scripts ≡ scripts.old.scripts }
     ensures ran { (runs : List (ScriptRun K))
-        × AreOfReaders (Q.content scripts.now name.now ∷ []) runs
+        × AreOfReaders (Q.content scripts.old.scripts.now name.now ∷ []) runs
         × AreRun runs result reporter.new.fault
         × Ends W.contents E.contents K.text K.status_of K.forgotten_of
-        (Q.content scripts.now name.now ∷ []) reporter.old runs result reporter.new
+        (Q.content scripts.old.scripts.now name.now ∷ []) scripts.new.has_failed reporter.old runs result reporter.new
         × LeadsTo K.is_step_over engine.old runs engine.new
         × (IsUsable S.Store engine.new.connection
         → (history : History) → EngineRepresents S.Store history engine.old
@@ -84,12 +85,19 @@ fn run_named<
     ensures usable { WasUsable S.Store engine.old.connection engine.new.connection }
     ensures others { SparesOthers S.Store engine.old.connection engine.new.connection }
 {
-    match scripts.open_script(name) {
-        Ok(script) => {
-            let mut file = Tracked::new(script);
-            run_script::<S, K, C, Q::Script, W, E>(alloc, engine, system, &mut file, reporter)
+    match scripts.open(name) {
+        Ok(mut script) => {
+            let ended = run_script::<S, K, C, Q::Script, W, E>(
+                alloc,
+                engine,
+                system,
+                &mut script,
+                reporter,
+            );
+            scripts.note(&script);
+            ended
         }
-        Err(_) => Err(RunFault::Read),
+        Err(fault) => Err(fault),
     }
 }
 
@@ -105,16 +113,18 @@ pub(crate) fn run_all<
     alloc: Global,
     engine: &mut Engine<S>,
     system: &C,
-    scripts: &Q,
+    scripts: &mut ScriptFiles<'_, Q>,
     names: &[String],
     reporter: &mut Reporter<W, E>,
 ) -> Result<bool, RunFault>
     requires { reporter.old.fault ≡ None }
-    ensures ran { let readers = map (Q.content scripts.now) (map string_bytes names.now) in
+    ensures same { scripts.new.scripts ≡ scripts.old.scripts }
+    ensures ran { let readers = map (Q.content scripts.old.scripts.now)
+        (map string_bytes names.now) in
         (runs : List (ScriptRun K)) × AreOfReaders readers runs
         × AreRun runs result reporter.new.fault
         × Ends W.contents E.contents K.text K.status_of K.forgotten_of
-        readers reporter.old runs result reporter.new
+        readers scripts.new.has_failed reporter.old runs result reporter.new
         × LeadsTo K.is_step_over engine.old runs engine.new
         × (IsUsable S.Store engine.new.connection
         → (history : History) → EngineRepresents S.Store history engine.old
