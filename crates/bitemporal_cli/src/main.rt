@@ -16,7 +16,7 @@ fn run_second(rt: &HostRuntime, words: &[String]) -> u8 {
     let alloc = rt.alloc();
     let mut err = Tracked::new(rt.stderr());
     let mut stores = StoreFiles::new(rt, AnyFiles);
-    let mut report = Reporter::new(alloc, rt.stdout());
+    let mut report = Reporter::new(alloc, rt.stdout(), Tracked::new(rt.stderr()));
     if let Some(asked) = backup_of(words) {
         return run_backup(rt, alloc, &mut stores, &asked, &report, &mut err);
     }
@@ -29,14 +29,15 @@ fn run_second(rt: &HostRuntime, words: &[String]) -> u8 {
         );
     };
     let mut input = Tracked::new(blocks);
+    let mut scripts = ScriptFiles::new(rt);
     run_file_program(
         alloc,
         words,
         &mut stores,
         rt,
+        &mut scripts,
         &mut input,
         &mut report,
-        &mut err,
     )
 }
 

@@ -1,3 +1,4 @@
+mod NoteFacts
 mod ReporterFacts
 mod RunFacts
 mod SessionFacts

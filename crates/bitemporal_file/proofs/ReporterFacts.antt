@@ -7,26 +7,32 @@ use Rattle.std.proofs.lemmas.List.{length-append}
 use Rattle.std.proofs.lemmas.List.Elements.{All-append, All-cons, All-head, All-nil, All-tail}
 use Rattle.script_engine.specs.script.Listening.{ReceivesAll}
 use Rattle.bitemporal_file.specs.Reporting.{EndsAtRefusal, ReceivesResult, ReceivesResults, greatest_from, texts_from}
+use Rattle.bitemporal_file.specs.Notes.{tally_from}
 use Rattle.bitemporal_file.specs.declared.reporter.Reporter.{Reporter}
+use Rattle.bitemporal_file.proofs.NoteFacts.{tally-more, told_then}
 
-module _ {W K : Type 0} (contents : W → Option (List ℕ)) (text : ℕ → K → List ℕ) (status : K → ℕ) where
-  pub none_recorded : (old : Reporter W) → old.fault ≡ None → ReceivesResults contents text status old [] true old
+module _ {W N K : Type 0} (contents : W → Option (List ℕ)) (errors : N → Option (List ℕ)) (text : ℕ → K → List ℕ) (status : K → ℕ) (forgotten : K → ℕ) where
+  pub none_recorded : (old : Reporter W N) → old.fault ≡ None → ReceivesResults contents errors text status forgotten old [] true old
   none_recorded old quiet = record {
     stops = refl;
     unused = λ is. (is, refl);
     worst = refl;
     low = λ low. low;
+    tally = refl;
+    told = inl (refl, refl);
     written = λ none. (Appends-nil (contents old.out), sym (add-zero old.next));
     on = λ on. (quiet, λ stops. All-nil (λ r. status r ≡ 0));
     off = λ off. let no : ⊥ = cc in absurd no;
   }
 
-  last_recorded : (old : Reporter W) (result : K) (new : Reporter W) → old.fault ≡ None → ReceivesResult contents text status old result false new → ReceivesResults contents text status old (result ∷ []) false new
+  last_recorded : (old : Reporter W N) (result : K) (new : Reporter W N) → old.fault ≡ None → ReceivesResult contents errors text status forgotten old result false new → ReceivesResults contents errors text status forgotten old (result ∷ []) false new
   last_recorded old result new quiet told = record {
     stops = told.stops;
     unused = λ is. let used : new.is_unused ≡ false = told.used in let no : ⊥ = cc in absurd no;
     worst = told.worst;
     low = told.low;
+    tally = told.tally;
+    told = told.told;
     written = λ none.
         let (appends, next) = told.written none in
         (Appends-trans (contents old.out) (contents new.out) (contents new.out) (text old.next result) [] appends (Appends-nil (contents new.out)), next);
@@ -41,7 +47,7 @@ module _ {W K : Type 0} (contents : W → Option (List ℕ)) (text : ℕ → K �
         );
   }
 
-  next_recorded : (old : Reporter W) (result : K) (middle : Reporter W) (results : List K) (goes_on : Bool) (new : Reporter W) → old.fault ≡ None → ReceivesResult contents text status old result true middle → ReceivesResults contents text status middle results goes_on new → ReceivesResults contents text status old (result ∷ results) goes_on new
+  next_recorded : (old : Reporter W N) (result : K) (middle : Reporter W N) (results : List K) (goes_on : Bool) (new : Reporter W N) → old.fault ≡ None → ReceivesResult contents errors text status forgotten old result true middle → ReceivesResults contents errors text status forgotten middle results goes_on new → ReceivesResults contents errors text status forgotten old (result ∷ results) goes_on new
   next_recorded old result middle results goes_on new quiet told rest =
       let (same, zero) = told.on refl in
       let silent : middle.fault ≡ None = same ∙ quiet in
@@ -53,6 +59,8 @@ module _ {W K : Type 0} (contents : W → Option (List ℕ)) (text : ℕ → K �
             let no : ⊥ = cc in absurd no;
         worst = rest.worst ∙ ap (λ w. greatest_from status w results) told.worst;
         low = λ low. rest.low (told.low low);
+        tally = rest.tally ∙ ap (λ n. tally_from forgotten n middle.notes.tally results) (told.written silent).1 ∙ ap (λ t. tally_from forgotten (old.next + 1) t results) told.tally;
+        told = told_then errors old.notes middle.notes new.notes told.told rest.told;
         written = λ none.
             let (first, next) = told.written silent in
             let (others, last) = rest.written none in
@@ -72,7 +80,7 @@ module _ {W K : Type 0} (contents : W → Option (List ℕ)) (text : ℕ → K �
             );
       }
 
-  pub all_recorded : (n : ℕ) (old : Reporter W) (results : List K) (goes_on : Bool) (new : Reporter W) → old.fault ≡ None → ReceivesAll (λ o m. ReceivesResult contents text status o) n old results goes_on new → ReceivesResults contents text status old results goes_on new
+  pub all_recorded : (n : ℕ) (old : Reporter W N) (results : List K) (goes_on : Bool) (new : Reporter W N) → old.fault ≡ None → ReceivesAll (λ o m. ReceivesResult contents errors text status forgotten o) n old results goes_on new → ReceivesResults contents errors text status forgotten old results goes_on new
   all_recorded n old [] goes_on new quiet (same, on) = rw (same, on) (none_recorded old quiet)
   all_recorded n old (result ∷ results) goes_on new quiet (inl (told, none, off)) = rw (none, off) (last_recorded old result new quiet told)
   all_recorded n old (result ∷ results) goes_on new quiet (inr (middle, told, rest)) =
@@ -80,7 +88,7 @@ module _ {W K : Type 0} (contents : W → Option (List ℕ)) (text : ℕ → K �
       next_recorded old result middle results goes_on new quiet told (all_recorded (n + 1) middle results goes_on new silent rest)
 
   -- one result alone
-  pub one_recorded : (old : Reporter W) (result : K) (goes_on : Bool) (new : Reporter W) → old.fault ≡ None → ReceivesResult contents text status old result goes_on new → ReceivesResults contents text status old (result ∷ []) goes_on new
+  pub one_recorded : (old : Reporter W N) (result : K) (goes_on : Bool) (new : Reporter W N) → old.fault ≡ None → ReceivesResult contents errors text status forgotten old result goes_on new → ReceivesResults contents errors text status forgotten old (result ∷ []) goes_on new
   one_recorded old result false new quiet told = last_recorded old result new quiet told
   one_recorded old result true new quiet told = next_recorded old result new [] true new quiet told (none_recorded new ((told.on refl).0 ∙ quiet))
 
@@ -102,7 +110,7 @@ module _ {W K : Type 0} (contents : W → Option (List ℕ)) (text : ℕ → K �
       ap (λ rest. text n result ++ rest) (texts-more (n + 1) results more ∙ ap (λ m. texts_from text (n + 1) results ++ texts_from text m more) count)
       ∙ sym (append_assoc (text n result) (texts_from text (n + 1) results) (texts_from text (n + length (result ∷ results)) more))
 
-  pub recorded_more : (old : Reporter W) (results : List K) (middle : Reporter W) (more : List K) (goes_on : Bool) (new : Reporter W) → ReceivesResults contents text status old results true middle → ReceivesResults contents text status middle more goes_on new → ReceivesResults contents text status old (results ++ more) goes_on new
+  pub recorded_more : (old : Reporter W N) (results : List K) (middle : Reporter W N) (more : List K) (goes_on : Bool) (new : Reporter W N) → ReceivesResults contents errors text status forgotten old results true middle → ReceivesResults contents errors text status forgotten middle more goes_on new → ReceivesResults contents errors text status forgotten old (results ++ more) goes_on new
   recorded_more old results middle more goes_on new first last =
       let (quiet, zeros) = first.on refl in
       record {
@@ -113,6 +121,8 @@ module _ {W K : Type 0} (contents : W → Option (List ℕ)) (text : ℕ → K �
             (was, ap (λ (rs : List K). rs ++ more) nothing ∙ none);
         worst = last.worst ∙ ap (λ w. greatest_from status w more) first.worst ∙ sym (greatest-more old.worst results more);
         low = λ low. last.low (first.low low);
+        tally = last.tally ∙ ap (λ n. tally_from forgotten n middle.notes.tally more) (first.written quiet).1 ∙ ap (λ t. tally_from forgotten (old.next + length results) t more) first.tally ∙ sym (tally-more forgotten old.next old.notes.tally results more);
+        told = told_then errors old.notes middle.notes new.notes first.told last.told;
         written = λ none.
             let (begun, next) = first.written quiet in
             let (others, end) = last.written none in

@@ -1,6 +1,6 @@
 -- Scripts that are run one after the other.
 use Rattle.std.proofs.Common.{◌≡◌, ◌≢◌, ◌<◌, ◌⊎◌, ◌+◌, ◌++◌, ◌∷◌, ◌∙◌, ℕ, Bool, List, [], Option, None, Some, Result, Ok, Err, All, drop, get_or, length, map, take, false, true, ap, arith, inl, inr, refl, subst, sym, append_assoc}
-use Rattle.std.specs.Prelude.{IfSome, IsSome}
+use Rattle.std.specs.Prelude.{IfErr, IfSome, IsSome}
 use Rattle.std.specs.Io.KnownBytes.{Appends}
 use Rattle.std.proofs.KnownBytes.{Appends-nil, Appends-trans}
 use Rattle.std.proofs.lemmas.List.{append-nil, length-append, map-append, take-append-drop, take_more}
@@ -17,13 +17,34 @@ use Rattle.script_engine.specs.engine.Stored.{AreOfHistory, DatabaseRepresents, 
 use Rattle.script_engine.specs.script.Script.{MayRefuseScript, most_bytes}
 use Rattle.command_line.specs.Reading.{read_of}
 use Rattle.command_line.specs.declared.fault.RunFault.{RunFault}
-use Rattle.command_line.specs.declared.fault.RunFault.TheVariants.{Memory, Read, Script}
+use Rattle.command_line.specs.declared.fault.RunFault.TheVariants.{Memory, Read, Script, Write}
 use Rattle.bitemporal_file.specs.Reporting.{EndsAtRefusal, IsReportFault, ReceivesResults, greatest_from, texts_from}
-use Rattle.bitemporal_file.specs.ScriptRuns.{AllButLast, AreOfReaders, AreRun, Ends, IsWhole, LeadsTo, MayRefuseNext, ScriptRun, reports, results_of}
+use Rattle.bitemporal_file.specs.ScriptRuns.{AllButLast, AreOfReaders, AreRun, Ends, IsScriptFault, IsWhole, LeadsTo, MayRefuseNext, ScriptRun, reports, results_of, tally_after}
 use Rattle.bitemporal_file.specs.declared.reporter.Reporter.{Reporter}
+use Rattle.bitemporal_file.specs.Notes.{tally_from}
+use Rattle.bitemporal_file.specs.declared.notes.Tally.{Tally}
+use Rattle.bitemporal_file.proofs.NoteFacts.{told_then}
 use Rattle.bitemporal_file.proofs.ReporterFacts.{greatest-more, refusal-more}
 
 -- ---- one script
+
+-- a script that was not read has a fault of scripts
+pub unread_script : (failed : Bool) (fault : RunFault) → (fault ≡ Memory) ⊎ ((fault ≡ Read) × (failed ≡ true)) → IsScriptFault failed fault
+unread_script failed fault (inl is) = rw is tt
+unread_script failed fault (inr (is, did)) = rw is did
+
+-- a report that was not written is a fault of scripts
+unwritten_script : (failed : Bool) (fault : RunFault) → IsReportFault fault → IsScriptFault failed fault
+unwritten_script failed fault (inl is) = rw is tt
+unwritten_script failed fault (inr is) = rw is tt
+
+-- a file that has failed has failed later too
+pub failed_later : (failed later : Bool) (fault : RunFault) → (failed ≡ true → later ≡ true) → IsScriptFault failed fault → IsScriptFault later fault
+failed_later failed later Memory stays is = tt
+failed_later failed later Read stays is = stays is
+failed_later failed later Write stays is = tt
+failed_later failed later (Script refusal) stays is = tt
+failed_later failed later _ stays is = absurd is
 
 -- the fault of a script that was not read is no refusal
 pub read_fault_is_plain : (has_failed : Bool) (fault : RunFault) (refusal : Refusal) → (fault ≡ Memory) ⊎ ((fault ≡ Read) × (has_failed ≡ true)) → fault ≡ Script refusal → ⊥
@@ -43,16 +64,19 @@ read_refusal (Some all) script items refusal same bytes may = subst (λ (text : 
 pub same_refusal : (refusal other : Refusal) → Script refusal ≡ Script other → refusal ≡ other
 same_refusal refusal other is = cc
 
-module _ {W K : Type 0} (contents : W → Option (List ℕ)) (text : ℕ → K → List ℕ) (status : K → ℕ) where
+module _ {W N K : Type 0} (contents : W → Option (List ℕ)) (errors : N → Option (List ℕ)) (text : ℕ → K → List ℕ) (status : K → ℕ) (forgotten : K → ℕ) where
   -- nothing was run
-  pub none_run : (readers : List (Option (List ℕ))) (old : Reporter W) (next : ℕ) (fault : RunFault) → old.fault ≡ None → ((refusal : Refusal) → fault ≡ Script refusal → MayRefuseNext {K = K} readers [] refusal) →
-      Ends contents text status readers old [] (Err fault) (record old { next = next })
-  none_run readers old next fault quiet may = record {
+  pub none_run : (readers : List (Option (List ℕ))) (failed : Bool) (old : Reporter W N) (next : ℕ) (fault : RunFault) → old.fault ≡ None → IsScriptFault failed fault → ((refusal : Refusal) → fault ≡ Script refusal → MayRefuseNext {K = K} readers [] refusal) →
+      Ends contents errors text status forgotten readers failed old [] (Err fault) (record old { next = next })
+  none_run readers failed old next fault quiet its may = record {
     stops = refl;
     unused = λ is. (is, refl);
     worst = refl;
     low = λ low. low;
+    tally = refl;
+    told = inl (refl, refl);
     written = λ none. Appends-nil (contents old.out);
+    fault = its;
     faulty = rw quiet tt;
     whole = λ on. let no : ⊥ = cc in absurd no;
     stopped = λ off. let no : ⊥ = cc in absurd no;
@@ -63,13 +87,16 @@ module _ {W K : Type 0} (contents : W → Option (List ℕ)) (text : ℕ → K �
       is_fault refusal is = cc
 
   -- no script was named yet
-  pub none_yet : (old : Reporter W) → old.fault ≡ None → Ends {K = K} contents text status [] old [] (Ok true) old
-  none_yet old quiet = record {
+  pub none_yet : (failed : Bool) (old : Reporter W N) → old.fault ≡ None → Ends {K = K} contents errors text status forgotten [] failed old [] (Ok true) old
+  none_yet failed old quiet = record {
     stops = refl;
     unused = λ is. (is, refl);
     worst = refl;
     low = λ low. low;
+    tally = refl;
+    told = inl (refl, refl);
     written = λ none. Appends-nil (contents old.out);
+    fault = tt;
     faulty = rw quiet tt;
     whole = λ on. (refl, λ stops. All-nil (λ r. status r ≡ 0));
     stopped = λ off. let no : ⊥ = cc in absurd no;
@@ -90,14 +117,17 @@ module _ {W K : Type 0} (contents : W → Option (List ℕ)) (text : ℕ → K �
   no_fault (Some x) same some = cc
 
   -- a script whose report met no fault
-  pub one_ended : (known : Option (List ℕ)) (script : List ℕ) (old : Reporter W) (results : List K) (goes_on : Bool) (new : Reporter W) → new.fault ≡ None → ReceivesResults contents text status (record old { next = 1 }) results goes_on new →
-      Ends contents text status (known ∷ []) old (one script results goes_on) (Ok goes_on) new
-  one_ended known script old results goes_on new quiet told = record {
+  pub one_ended : (known : Option (List ℕ)) (failed : Bool) (script : List ℕ) (old : Reporter W N) (results : List K) (goes_on : Bool) (new : Reporter W N) → new.fault ≡ None → ReceivesResults contents errors text status forgotten (record old { next = 1 }) results goes_on new →
+      Ends contents errors text status forgotten (known ∷ []) failed old (one script results goes_on) (Ok goes_on) new
+  one_ended known failed script old results goes_on new quiet told = record {
     stops = told.stops;
     unused = λ is. let (was, none) = told.unused is in (was, append-nil results ∙ none);
     worst = told.worst ∙ ap (greatest_from status old.worst) (sym (append-nil results));
     low = told.low;
+    tally = told.tally;
+    told = told.told;
     written = λ none. subst (Appends (contents old.out) (contents new.out)) (sym (append-nil (texts_from text 1 results))) (told.written none).0;
+    fault = tt;
     faulty = rw quiet tt;
     whole = λ is.
         let on : goes_on ≡ true = same_flow goes_on true is in (
@@ -125,21 +155,24 @@ module _ {W K : Type 0} (contents : W → Option (List ℕ)) (text : ℕ → K �
   its_own None its is may = let no : ⊥ = cc in absurd no
   its_own (Some f) its is may = let same : f ≡ its = cc in subst IsReportFault same may
 
-  pub faulty_flow : (goes_on : Bool) (old new : Reporter W) (results : List K) (fault : RunFault) → new.fault ≡ Some fault → ReceivesResults contents text status old results goes_on new → IfSome new.fault IsReportFault
+  pub faulty_flow : (goes_on : Bool) (old new : Reporter W N) (results : List K) (fault : RunFault) → new.fault ≡ Some fault → ReceivesResults contents errors text status forgotten old results goes_on new → IfSome new.fault IsReportFault
   faulty_flow false old new results fault is told = (told.off refl).0
   faulty_flow true old new results fault is told = rw (told.on refl).0 tt
 
   -- a script whose report met one
-  pub one_faulty : (known : Option (List ℕ)) (script : List ℕ) (old : Reporter W) (results : List K) (goes_on : Bool) (new : Reporter W) (fault : RunFault) → new.fault ≡ Some fault → ReceivesResults contents text status (record old { next = 1 }) results goes_on new →
-      Ends contents text status (known ∷ []) old (one script results goes_on) (Err fault) new
-  one_faulty known script old results goes_on new fault is told =
+  pub one_faulty : (known : Option (List ℕ)) (failed : Bool) (script : List ℕ) (old : Reporter W N) (results : List K) (goes_on : Bool) (new : Reporter W N) (fault : RunFault) → new.fault ≡ Some fault → ReceivesResults contents errors text status forgotten (record old { next = 1 }) results goes_on new →
+      Ends contents errors text status forgotten (known ∷ []) failed old (one script results goes_on) (Err fault) new
+  one_faulty known failed script old results goes_on new fault is told =
       let may = faulty_flow goes_on (record old { next = 1 }) new results fault is told in
       record {
         stops = told.stops;
         unused = λ is. let (was, none) = told.unused is in (was, append-nil results ∙ none);
         worst = told.worst ∙ ap (greatest_from status old.worst) (sym (append-nil results));
         low = told.low;
+        tally = told.tally;
+        told = told.told;
         written = λ none. let no : ⊥ = cc in absurd no;
+        fault = unwritten_script failed fault (its_own new.fault fault is may);
         faulty = its_fault new.fault fault is may;
         whole = λ on. let no : ⊥ = cc in absurd no;
         stopped = λ off. let no : ⊥ = cc in absurd no;
@@ -156,6 +189,10 @@ module _ {W K : Type 0} (contents : W → Option (List ℕ)) (text : ℕ → K �
   pub results-more : (runs more : List (ScriptRun K)) → results_of (runs ++ more) ≡ results_of runs ++ results_of more
   results-more [] more = refl
   results-more (run ∷ runs) more = ap (λ rest. run.results ++ rest) (results-more runs more) ∙ sym (append_assoc run.results (results_of runs) (results_of more))
+
+  tallies-more : (tally : Tally) (runs more : List (ScriptRun K)) → tally_after forgotten tally (runs ++ more) ≡ tally_after forgotten (tally_after forgotten tally runs) more
+  tallies-more tally [] more = refl
+  tallies-more tally (run ∷ runs) more = tallies-more (tally_from forgotten 1 tally run.results) runs more
 
   pub reports-more : (runs more : List (ScriptRun K)) → reports text (runs ++ more) ≡ reports text runs ++ reports text more
   reports-more [] more = refl
@@ -188,10 +225,10 @@ module _ {W K : Type 0} (contents : W → Option (List ℕ)) (text : ℕ → K �
   next-within (known ∷ readers) rest [] refusal may = may
   next-within (known ∷ readers) rest (run ∷ runs) refusal may = next-within readers rest runs refusal may
 
-  pub ends_more : (readers : List (Option (List ℕ))) (known : Option (List ℕ)) (old : Reporter W) (runs : List (ScriptRun K)) (middle : Reporter W) (more : List (ScriptRun K)) (ended : Result Bool RunFault) (new : Reporter W) →
-      middle.fault ≡ None → Ends contents text status readers old runs (Ok true) middle → Ends contents text status (known ∷ []) middle more ended new →
-      Ends contents text status (readers ++ known ∷ []) old (runs ++ more) ended new
-  ends_more readers known old runs middle more ended new quiet first last =
+  pub ends_more : (readers : List (Option (List ℕ))) (before failed : Bool) (known : Option (List ℕ)) (old : Reporter W N) (runs : List (ScriptRun K)) (middle : Reporter W N) (more : List (ScriptRun K)) (ended : Result Bool RunFault) (new : Reporter W N) →
+      middle.fault ≡ None → Ends contents errors text status forgotten readers before old runs (Ok true) middle → Ends contents errors text status forgotten (known ∷ []) failed middle more ended new →
+      Ends contents errors text status forgotten (readers ++ known ∷ []) failed old (runs ++ more) ended new
+  ends_more readers before failed known old runs middle more ended new quiet first last =
       let (count, zeros) = first.whole refl in
       record {
         stops = last.stops ∙ first.stops;
@@ -199,10 +236,13 @@ module _ {W K : Type 0} (contents : W → Option (List ℕ)) (text : ℕ → K �
             let (between, none) = last.unused is in
             let (was, nothing) = first.unused between in
             (was, results-more runs more ∙ ap (λ (rs : List K). rs ++ results_of more) nothing ∙ none);
-        worst = last.worst ∙ ap (λ w. greatest_from status w (results_of more)) first.worst ∙ sym (greatest-more contents text status old.worst (results_of runs) (results_of more)) ∙ ap (greatest_from status old.worst) (sym (results-more runs more));
+        worst = last.worst ∙ ap (λ w. greatest_from status w (results_of more)) first.worst ∙ sym (greatest-more contents errors text status forgotten old.worst (results_of runs) (results_of more)) ∙ ap (greatest_from status old.worst) (sym (results-more runs more));
         low = λ low. last.low (first.low low);
+        tally = last.tally ∙ ap (λ t. tally_after forgotten t more) first.tally ∙ sym (tallies-more old.notes.tally runs more);
+        told = told_then errors old.notes middle.notes new.notes first.told last.told;
         written = λ none. subst (Appends (contents old.out) (contents new.out)) (sym (reports-more runs more))
             (Appends-trans (contents old.out) (contents middle.out) (contents new.out) (reports text runs) (reports text more) (first.written quiet) (last.written none));
+        fault = last.fault;
         faulty = last.faulty;
         whole = λ is.
             let (its, zero) = last.whole is in (
@@ -212,24 +252,49 @@ module _ {W K : Type 0} (contents : W → Option (List ℕ)) (text : ℕ → K �
         stopped = λ is.
             let (stops, ends) = last.stopped is in
             let stopping : old.stops ≡ true = sym first.stops ∙ stops in
-            (stopping, subst (EndsAtRefusal status) (sym (results-more runs more)) (refusal-more contents text status (results_of runs) (results_of more) (zeros stopping) ends));
+            (stopping, subst (EndsAtRefusal status) (sym (results-more runs more)) (refusal-more contents errors text status forgotten (results_of runs) (results_of more) (zeros stopping) ends));
         refused = λ refusal is. next-more readers known runs more refusal count (last.refused refusal is);
       }
 
   -- scripts that end before the last
-  pub ends_within : (readers rest : List (Option (List ℕ))) (old : Reporter W) (runs : List (ScriptRun K)) (ended : Result Bool RunFault) (new : Reporter W) → (ended ≡ Ok true → ⊥) → Ends contents text status readers old runs ended new →
-      Ends contents text status (readers ++ rest) old runs ended new
-  ends_within readers rest old runs ended new before ends = record {
+  pub ends_within : (readers rest : List (Option (List ℕ))) (failed : Bool) (old : Reporter W N) (runs : List (ScriptRun K)) (ended : Result Bool RunFault) (new : Reporter W N) → (ended ≡ Ok true → ⊥) → Ends contents errors text status forgotten readers failed old runs ended new →
+      Ends contents errors text status forgotten (readers ++ rest) failed old runs ended new
+  ends_within readers rest failed old runs ended new before ends = record {
     stops = ends.stops;
     unused = ends.unused;
     worst = ends.worst;
     low = ends.low;
+    tally = ends.tally;
+    told = ends.told;
     written = ends.written;
+    fault = ends.fault;
     faulty = ends.faulty;
     whole = λ is. absurd (before is);
     stopped = ends.stopped;
     refused = λ refusal is. next-within readers rest runs refusal (ends.refused refusal is);
   }
+
+  -- files that have failed later too
+  pub ends_later : (readers : List (Option (List ℕ))) (failed later : Bool) (old : Reporter W N) (runs : List (ScriptRun K)) (ended : Result Bool RunFault) (new : Reporter W N) → (failed ≡ true → later ≡ true) → Ends contents errors text status forgotten readers failed old runs ended new →
+      Ends contents errors text status forgotten readers later old runs ended new
+  ends_later readers failed later old runs ended new stays ends = record {
+    stops = ends.stops;
+    unused = ends.unused;
+    worst = ends.worst;
+    low = ends.low;
+    tally = ends.tally;
+    told = ends.told;
+    written = ends.written;
+    fault = its ended ends.fault;
+    faulty = ends.faulty;
+    whole = ends.whole;
+    stopped = ends.stopped;
+    refused = ends.refused;
+  }
+    where
+      its : (result : Result Bool RunFault) → IfErr result (IsScriptFault failed) → IfErr result (IsScriptFault later)
+      its (Ok flow) is = tt
+      its (Err fault) is = failed_later failed later fault stays is
 
 -- ---- runs that came to their ends
 

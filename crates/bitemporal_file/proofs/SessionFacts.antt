@@ -163,18 +163,20 @@ module _ {K : Type 0} where
       ∙ sym (append_assoc (text_in text n first) (turns_text text next turns) (text_in text (n + length (results_in first ++ all_results turns)) turn))
 
   -- the results alone, whatever the output got of them
-  abbrev pub Heard : {W : Type 0} → (ℕ → K → List ℕ) → (K → ℕ) → Reporter W → List K → Bool → Reporter W → Type 0
-  Heard {W} text status old results goes_on new = ReceivesResults (λ (out : W). None) text status old results goes_on new
+  abbrev pub Heard : {W N : Type 0} → (N → Option (List ℕ)) → (ℕ → K → List ℕ) → (K → ℕ) → (K → ℕ) → Reporter W N → List K → Bool → Reporter W N → Type 0
+  Heard {W} errors text status forgotten old results goes_on new = ReceivesResults (λ (out : W). None) errors text status forgotten old results goes_on new
 
-  module _ {W : Type 0} (contents : W → Option (List ℕ)) (text : ℕ → K → List ℕ) (status : K → ℕ) where
+  module _ {W N : Type 0} (contents : W → Option (List ℕ)) (errors : N → Option (List ℕ)) (text : ℕ → K → List ℕ) (status : K → ℕ) (forgotten : K → ℕ) where
     -- a part is reported
-    pub ran_heard : (old : Reporter W) (run : ScriptRun K) (goes_on : Bool) (new : Reporter W) → ReceivesResults contents text status old run.results goes_on new → ReceivesTurn contents text status old (Ran run) goes_on new
+    pub ran_heard : (old : Reporter W N) (run : ScriptRun K) (goes_on : Bool) (new : Reporter W N) → ReceivesResults contents errors text status forgotten old run.results goes_on new → ReceivesTurn contents errors text status forgotten old (Ran run) goes_on new
     ran_heard old run goes_on new told = record {
       results = record {
         stops = told.stops;
         unused = told.unused;
         worst = told.worst;
         low = told.low;
+        tally = told.tally;
+        told = told.told;
         written = λ none. (tt, (told.written none).1);
         on = told.on;
         off = told.off;
@@ -183,14 +185,16 @@ module _ {K : Type 0} where
     }
 
     -- a command's line is answered
-    pub line_received : (old : Reporter W) (out : W) (fault : Option RunFault) (bytes line told : List ℕ) (goes_on : Bool) → old.fault ≡ None → (goes_on ≡ true → Appends (contents old.out) (contents out) told) → (goes_on ≡ true → fault ≡ None) → (goes_on ≡ false → IsSome fault × IfSome fault IsReportFault) →
-        ReceivesTurn contents text status old (LineAnswered bytes line told) goes_on (record old { out = out; fault = fault })
+    pub line_received : (old : Reporter W N) (out : W) (fault : Option RunFault) (bytes line told : List ℕ) (goes_on : Bool) → old.fault ≡ None → (goes_on ≡ true → Appends (contents old.out) (contents out) told) → (goes_on ≡ true → fault ≡ None) → (goes_on ≡ false → IsSome fault × IfSome fault IsReportFault) →
+        ReceivesTurn contents errors text status forgotten old (LineAnswered bytes line told) goes_on (record old { out = out; fault = fault })
     line_received old out fault bytes line told true quiet wrote none some = record {
       results = record {
         stops = refl;
         unused = λ is. (is, refl);
         worst = refl;
         low = λ low. low;
+        tally = refl;
+        told = inl (refl, refl);
         written = λ silent. (tt, sym (add-zero old.next));
         on = λ on. (none refl, λ stops. All-nil (λ r. status r ≡ 0));
         off = λ off. let no : ⊥ = cc in absurd no;
@@ -203,6 +207,8 @@ module _ {K : Type 0} where
         unused = λ is. (is, refl);
         worst = refl;
         low = λ low. low;
+        tally = refl;
+        told = inl (refl, refl);
         written = λ silent. (tt, sym (add-zero old.next));
         on = λ on. let no : ⊥ = cc in absurd no;
         off = λ off. ((some refl).1, inl (some refl).0);
@@ -214,15 +220,15 @@ module _ {K : Type 0} where
         no_fault None same some = cc
         no_fault (Some x) same some = cc
 
-    pub heard_turn : (old middle new : Reporter W) (turns : List (Turn K)) (turn : Turn K) (goes_on : Bool) → Heard text status old (all_results turns) true middle → ReceivesTurn contents text status middle turn goes_on new →
-        Heard text status old (all_results (turns ++ turn ∷ [])) goes_on new
+    pub heard_turn : (old middle new : Reporter W N) (turns : List (Turn K)) (turn : Turn K) (goes_on : Bool) → Heard errors text status forgotten old (all_results turns) true middle → ReceivesTurn contents errors text status forgotten middle turn goes_on new →
+        Heard errors text status forgotten old (all_results (turns ++ turn ∷ [])) goes_on new
     heard_turn old middle new turns turn goes_on first last =
-        subst (λ (results : List K). Heard text status old results goes_on new) (sym (results-one turns turn)) (recorded_more (λ (out : W). None) text status old (all_results turns) middle (results_in turn) goes_on new first last.results)
+        subst (λ (results : List K). Heard errors text status forgotten old results goes_on new) (sym (results-one turns turn)) (recorded_more (λ (out : W). None) errors text status forgotten old (all_results turns) middle (results_in turn) goes_on new first last.results)
 
-    abbrev pub Written : Reporter W → List (Turn K) → Reporter W → Type 0
+    abbrev pub Written : Reporter W N → List (Turn K) → Reporter W N → Type 0
     Written old turns new = new.fault ≡ None → Appends (contents old.out) (contents new.out) (turns_text text old.next turns)
 
-    pub written_turn : (old middle new : Reporter W) (turns : List (Turn K)) (turn : Turn K) (goes_on : Bool) → Heard text status old (all_results turns) true middle → Written old turns middle → ReceivesTurn contents text status middle turn goes_on new → Written old (turns ++ turn ∷ []) new
+    pub written_turn : (old middle new : Reporter W N) (turns : List (Turn K)) (turn : Turn K) (goes_on : Bool) → Heard errors text status forgotten old (all_results turns) true middle → Written old turns middle → ReceivesTurn contents errors text status forgotten middle turn goes_on new → Written old (turns ++ turn ∷ []) new
     written_turn old middle new turns turn goes_on first before last none =
         let quiet : middle.fault ≡ None = (first.on refl).0 in
         let next : middle.next ≡ old.next + length (all_results turns) = (first.written quiet).1 in
@@ -235,13 +241,15 @@ module _ {K : Type 0} where
     no_fault None same some = cc
     no_fault (Some x) same some = cc
 
-    ends_heard : (old : Reporter W) (turns : List (Turn K)) (goes_on : Bool) (ended : Result Bool RunFault) (new : Reporter W) → Heard text status old (all_results turns) goes_on new → Written old turns new →
-        IfSome new.fault (λ fault. IsReportFault fault × (ended ≡ Err fault)) → ((flow : Bool) → ended ≡ Ok flow → (flow ≡ goes_on) × (new.fault ≡ None)) → EndsWith contents text status old turns ended new
+    ends_heard : (old : Reporter W N) (turns : List (Turn K)) (goes_on : Bool) (ended : Result Bool RunFault) (new : Reporter W N) → Heard errors text status forgotten old (all_results turns) goes_on new → Written old turns new →
+        IfSome new.fault (λ fault. IsReportFault fault × (ended ≡ Err fault)) → ((flow : Bool) → ended ≡ Ok flow → (flow ≡ goes_on) × (new.fault ≡ None)) → EndsWith contents errors text status forgotten old turns ended new
     ends_heard old turns goes_on ended new told wrote faulty flows = record {
       stops = told.stops;
       unused = told.unused;
       worst = told.worst;
       low = told.low;
+      tally = told.tally;
+      told = told.told;
       written = wrote;
       faulty = faulty;
       whole = λ is stops.
@@ -256,21 +264,21 @@ module _ {K : Type 0} where
     }
 
     -- by a fault that is none of the report
-    pub failed_heard : (old : Reporter W) (turns : List (Turn K)) (goes_on : Bool) (fault : RunFault) (new : Reporter W) → new.fault ≡ None → Heard text status old (all_results turns) goes_on new → Written old turns new → EndsWith contents text status old turns (Err fault) new
+    pub failed_heard : (old : Reporter W N) (turns : List (Turn K)) (goes_on : Bool) (fault : RunFault) (new : Reporter W N) → new.fault ≡ None → Heard errors text status forgotten old (all_results turns) goes_on new → Written old turns new → EndsWith contents errors text status forgotten old turns (Err fault) new
     failed_heard old turns goes_on fault new quiet told wrote =
         ends_heard old turns goes_on (Err fault) new told wrote (rw quiet tt) (λ flow is. let no : ⊥ = cc in absurd no)
 
-    pub report_fault : (old : Reporter W) (turns : List (Turn K)) (goes_on : Bool) (fault : RunFault) (new : Reporter W) → new.fault ≡ Some fault → Heard text status old (all_results turns) goes_on new → IsReportFault fault
+    pub report_fault : (old : Reporter W N) (turns : List (Turn K)) (goes_on : Bool) (fault : RunFault) (new : Reporter W N) → new.fault ≡ Some fault → Heard errors text status forgotten old (all_results turns) goes_on new → IsReportFault fault
     report_fault old turns goes_on fault new is told =
-        its_own (λ (out : W). None) text status new.fault fault is (faulty_flow (λ (out : W). None) text status goes_on old new (all_results turns) fault is told)
+        its_own (λ (out : W). None) errors text status forgotten new.fault fault is (faulty_flow (λ (out : W). None) errors text status forgotten goes_on old new (all_results turns) fault is told)
 
     -- by a fault of the report
-    pub faulty_heard : (old : Reporter W) (turns : List (Turn K)) (goes_on : Bool) (fault : RunFault) (new : Reporter W) → new.fault ≡ Some fault → Heard text status old (all_results turns) goes_on new → Written old turns new → EndsWith contents text status old turns (Err fault) new
+    pub faulty_heard : (old : Reporter W N) (turns : List (Turn K)) (goes_on : Bool) (fault : RunFault) (new : Reporter W N) → new.fault ≡ Some fault → Heard errors text status forgotten old (all_results turns) goes_on new → Written old turns new → EndsWith contents errors text status forgotten old turns (Err fault) new
     faulty_heard old turns goes_on fault new is told wrote =
-        ends_heard old turns goes_on (Err fault) new told wrote (its_fault (λ (out : W). None) text status new.fault fault is (faulty_flow (λ (out : W). None) text status goes_on old new (all_results turns) fault is told)) (λ flow same. let no : ⊥ = cc in absurd no)
+        ends_heard old turns goes_on (Err fault) new told wrote (its_fault (λ (out : W). None) errors text status forgotten new.fault fault is (faulty_flow (λ (out : W). None) errors text status forgotten goes_on old new (all_results turns) fault is told)) (λ flow same. let no : ⊥ = cc in absurd no)
 
     -- without a fault
-    pub quiet_heard : (old : Reporter W) (turns : List (Turn K)) (goes_on : Bool) (new : Reporter W) → new.fault ≡ None → Heard text status old (all_results turns) goes_on new → Written old turns new → EndsWith contents text status old turns (Ok goes_on) new
+    pub quiet_heard : (old : Reporter W N) (turns : List (Turn K)) (goes_on : Bool) (new : Reporter W N) → new.fault ≡ None → Heard errors text status forgotten old (all_results turns) goes_on new → Written old turns new → EndsWith contents errors text status forgotten old turns (Ok goes_on) new
     quiet_heard old turns goes_on new quiet told wrote =
         ends_heard old turns goes_on (Ok goes_on) new told wrote (rw quiet tt) (λ flow is. let same : flow ≡ goes_on = cc in (same, quiet))
 
@@ -321,11 +329,11 @@ pub over_made : {H K : Type 0} (IsStep : H → List Lexeme → K → H → Type 
 over_made IsStep refused start opening bytes script results goes_on last same ran =
     let (made, is) = rw same at ran in inl (made, sym is)
 
-module _ {S K W : Type 0} (g : Ghosts S) (IsStep : History → List Lexeme → K → History → Type 0) (IsStepOver : EngineState S → List Lexeme → K → EngineState S → Type 0) (refused : Refusal → K) (contents : W → Option (List ℕ)) (text : ℕ → K → List ℕ) (status : K → ℕ) where
+module _ {S K W N : Type 0} (g : Ghosts S) (IsStep : History → List Lexeme → K → History → Type 0) (IsStepOver : EngineState S → List Lexeme → K → EngineState S → Type 0) (refused : Refusal → K) (contents : W → Option (List ℕ)) (errors : N → Option (List ℕ)) (text : ℕ → K → List ℕ) (status : K → ℕ) (forgotten : K → ℕ) where
   -- a part that was refused as a whole, and whether the session continues
-  pub refused_part : (old new : Reporter W) (before after : EngineState S) (start : ℕ) (script : List ℕ) (refusal : Refusal) (result : Result Bool RunFault) → MayRefuseScript script refusal → after ≡ before →
-      IfOk result (λ goes_on. ReceivesResults contents text status old (refused (placed_at start refusal) ∷ []) goes_on new) →
-      IfOk result (λ goes_on. (results : List K) × ReceivesResults contents text status old results goes_on new
+  pub refused_part : (old new : Reporter W N) (before after : EngineState S) (start : ℕ) (script : List ℕ) (refusal : Refusal) (result : Result Bool RunFault) → MayRefuseScript script refusal → after ≡ before →
+      IfOk result (λ goes_on. ReceivesResults contents errors text status forgotten old (refused (placed_at start refusal) ∷ []) goes_on new) →
+      IfOk result (λ goes_on. (results : List K) × ReceivesResults contents errors text status forgotten old results goes_on new
       × PartStep IsStepOver refused start before (record { script = script; results = results; is_whole = goes_on }) after
       × (IsUsable g after.connection → (history : History) → EngineRepresents g history before
       → RepresentsSome g (PartStep IsStep refused start history (record { script = script; results = results; is_whole = goes_on })) after))
@@ -333,19 +341,19 @@ module _ {S K W : Type 0} (g : Ghosts S) (IsStep : History → List Lexeme → K
   refused_part old new before after start script refusal (Ok goes_on) may same told =
       (refused (placed_at start refusal) ∷ [], told, inr (refusal, may, refl, same), λ usable history stands. (history, inr (refusal, may, refl, refl), subst (EngineRepresents g history) (sym same) stands))
 
-module _ {S K W : Type 0} (g : Ghosts S) (made : List ℕ → List ℕ → Type 0) (IsStep : History → List Lexeme → K → History → Type 0) (IsStepOver : EngineState S → List Lexeme → K → EngineState S → Type 0) (refused : Refusal → K) (contents : W → Option (List ℕ)) (text : ℕ → K → List ℕ) (status : K → ℕ) where
+module _ {S K W N : Type 0} (g : Ghosts S) (made : List ℕ → List ℕ → Type 0) (IsStep : History → List Lexeme → K → History → Type 0) (IsStepOver : EngineState S → List Lexeme → K → EngineState S → Type 0) (refused : Refusal → K) (contents : W → Option (List ℕ)) (errors : N → Option (List ℕ)) (text : ℕ → K → List ℕ) (status : K → ℕ) (forgotten : K → ℕ) where
   -- a turn was made
-  abbrev pub Turned : Reporter W → Reporter W → EngineState S → EngineState S → ℕ → Bool → List ℕ → Option (List ℕ) → Bool → Bool → Type 0
+  abbrev pub Turned : Reporter W N → Reporter W N → EngineState S → EngineState S → ℕ → Bool → List ℕ → Option (List ℕ) → Bool → Bool → Type 0
   Turned old new before after start starts bytes left commands goes_on =
       (turn : Turn K) × (bytes_in turn ≡ bytes) × IsTurn starts turn left × (ends_line turn ≡ commands)
-      × (goes_on ≡ true → All IsWhole (runs_in turn)) × ReceivesTurn contents text status old turn goes_on new
+      × (goes_on ≡ true → All IsWhole (runs_in turn)) × ReceivesTurn contents errors text status forgotten old turn goes_on new
       × TurnStep IsStepOver refused (IsAnsweredOver g) start before turn after
       × (IsUsable g after.connection → (history : History) → EngineRepresents g history before
       → RepresentsSome g (TurnStep IsStep refused (IsAnswered made) start history turn) after)
 
   -- a part was run, or refused as a whole
-  pub part_turn : (old new : Reporter W) (before after : EngineState S) (start : ℕ) (starts : Bool) (bytes script : List ℕ) (left : Option (List ℕ)) (commands : Bool) (result : Result Bool RunFault) → bytes ≡ script → commands ≡ false → EndsAtSemicolon script → HasNoCommand starts script →
-      IfOk result (λ goes_on. (results : List K) × ReceivesResults contents text status old results goes_on new
+  pub part_turn : (old new : Reporter W N) (before after : EngineState S) (start : ℕ) (starts : Bool) (bytes script : List ℕ) (left : Option (List ℕ)) (commands : Bool) (result : Result Bool RunFault) → bytes ≡ script → commands ≡ false → EndsAtSemicolon script → HasNoCommand starts script →
+      IfOk result (λ goes_on. (results : List K) × ReceivesResults contents errors text status forgotten old results goes_on new
       × PartStep IsStepOver refused start before (record { script = bytes; results = results; is_whole = goes_on }) after
       × (IsUsable g after.connection → (history : History) → EngineRepresents g history before
       → RepresentsSome g (PartStep IsStep refused start history (record { script = bytes; results = results; is_whole = goes_on })) after)) →
@@ -358,13 +366,13 @@ module _ {S K W : Type 0} (g : Ghosts S) (made : List ℕ → List ℕ → Type 
         (subst EndsAtSemicolon (sym same) ends, subst (HasNoCommand starts) (sym same) off),
         sym none,
         λ on. All-cons IsWhole run [] on (All-nil IsWhole),
-        ran_heard contents text status old run goes_on new told,
+        ran_heard contents errors text status forgotten old run goes_on new told,
         over,
         went,
       )
 
   -- the line of a command was answered
-  pub command_turn : (old new : Reporter W) (before after : EngineState S) (start : ℕ) (starts : Bool) (bytes line kept told : List ℕ) (left : Option (List ℕ)) (commands goes_on : Bool) → commands ≡ true → IsCommandLine starts bytes kept left → line ≡ kept → old.fault ≡ None →
+  pub command_turn : (old new : Reporter W N) (before after : EngineState S) (start : ℕ) (starts : Bool) (bytes line kept told : List ℕ) (left : Option (List ℕ)) (commands goes_on : Bool) → commands ≡ true → IsCommandLine starts bytes kept left → line ≡ kept → old.fault ≡ None →
       new ≡ record old { out = new.out; fault = new.fault } → (goes_on ≡ true → Appends (contents old.out) (contents new.out) told) → (goes_on ≡ true → new.fault ≡ None) → (goes_on ≡ false → IsSome new.fault × IfSome new.fault IsReportFault) →
       WasUsable g before.connection after.connection → SparesOthers g before.connection after.connection →
       (IsUsable g after.connection → (history : History) → EngineRepresents g history before → IsAnswer made history line told × EngineRepresents g history after) →
@@ -375,7 +383,7 @@ module _ {S K W : Type 0} (g : Ghosts S) (made : List ℕ → List ℕ → Type 
     subst (λ (k : List ℕ). IsCommandLine starts bytes k left) (sym same) is_line,
     sym on,
     λ going. All-nil IsWhole,
-    subst (ReceivesTurn contents text status old (LineAnswered bytes line told) goes_on) (sym alike) (line_received contents text status old new.out new.fault bytes line told goes_on quiet wrote none some),
+    subst (ReceivesTurn contents errors text status forgotten old (LineAnswered bytes line told) goes_on) (sym alike) (line_received contents errors text status forgotten old new.out new.fault bytes line told goes_on quiet wrote none some),
     record { usable = usable; others = others },
     λ is history stands. let (answer, after_is) = answered is history stands in (history, (answer, refl), after_is),
   )

@@ -22,9 +22,9 @@ pub record IsCopied {S : Type 0} (g : Ghosts S) (opened : Held S) (ended : Resul
       → DatabaseRepresents history (state g opened).now → IsFileOf history (memory_bytes file))
 
 -- a copy of a store is made, and nothing is reported
-abbrev pub BacksUp : {S W : Type 0} → Ghosts S → Filing S → Result ℕ RunFault → Reporter W
+abbrev pub BacksUp : {S W N : Type 0} → Ghosts S → Filing S → Result ℕ RunFault → Reporter W N
     → Type 0
-BacksUp {S} {W} g files result report =
+BacksUp {S} {W} {N} g files result report =
     Uses g files (λ reporter. reporter ≡ report)
     (λ opened ended closed reporter. IsCopied g opened ended closed × (reporter ≡ report))
     result report

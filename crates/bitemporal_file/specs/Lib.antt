@@ -1,3 +1,4 @@
+pub mod Notes
 pub mod Reporting
 pub mod ScriptRuns
 pub mod Parts

@@ -12,6 +12,8 @@ use Rattle.command_line.specs.declared.command.CommandFault.TheVariants.{Memory}
 use Rattle.command_line.specs.declared.fault.ProgramName.TheVariants.{BitemporalFile}
 use Rattle.command_line.specs.declared.fault.RunFault.{RunFault}
 use Rattle.command_line.specs.declared.file_command.Request.{Request}
+use Rattle.bitemporal_file.specs.Notes.{AreNoted}
+use Rattle.bitemporal_file.specs.declared.notes.Tally.{Tally}
 
 -- the last component of a path: what is after its last slash, or all if it has none
 abbrev pub last_component : Text → Text
@@ -43,3 +45,11 @@ ExitsAs (Ok status) exit err_failed old new = (exit ≡ status) × (new ≡ old)
 ExitsAs (Err fault) exit err_failed old new =
     (exit ≡ 2) × (told : RunFault) × MayBeReportedAs fault told
     × IsReported err_failed old new (fault_line BitemporalFile told)
+
+-- the exit after a run: standard error has its notes, by the versions that its statements forgot,
+-- and then the line of a fault
+abbrev pub ExitsNoting : Tally → Result ℕ RunFault → ℕ → Bool → Option (List ℕ)
+    → Option (List ℕ) → Type 0
+ExitsNoting tally ended exit err_failed old new =
+    (noted : Option (List ℕ)) × AreNoted tally err_failed old noted
+    × ExitsAs ended exit err_failed noted new

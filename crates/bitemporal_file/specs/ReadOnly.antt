@@ -85,42 +85,44 @@ read_only_refusal refused refusal = record { kept = refused refusal }
 
 -- a run that changes nothing, with an audit of each answer, or without; where the system makes
 -- files
-abbrev pub RunsReading : {S W : Type 0} → Ghosts S → (List ℕ → List ℕ → Type 0)
-    → (W → Option (List ℕ)) → Bool
-    → List (Option (List ℕ)) → Option (List ℕ) → Bool → Reporter W → Held S
-    → Result Bool RunFault → Held S → Reporter W → Type 0
-RunsReading g made contents false =
+abbrev pub RunsReading : {S W N : Type 0} → Ghosts S → (List ℕ → List ℕ → Type 0)
+    → (W → Option (List ℕ)) → (N → Option (List ℕ)) → Bool
+    → List (Option (List ℕ)) → Option (List ℕ) → Bool → Reporter W N → Held S
+    → Result Bool RunFault → Held S → Reporter W N → Type 0
+RunsReading g made contents errors false =
     RunsKind g made (ReadOnlyPieceStep PieceStep Err)
     (ReadOnlyPieceStepOver (PieceStepOver g) Err)
-    (read_only_refusal Err) contents (λ number only. text_of number only.kept)
-    (λ only. result_status only.kept)
-RunsReading g made contents true =
+    (read_only_refusal Err) contents errors (λ number only. text_of number only.kept)
+    (λ only. result_status only.kept) (λ only. 0)
+RunsReading g made contents errors true =
     RunsKind g made (ReadOnlyPieceStep AuditedPieceStep refused_entry)
     (ReadOnlyPieceStepOver (KeptStepOver g (λ entry. entry.result)) refused_entry)
-    (read_only_refusal refused_entry) contents (λ number only. entry_text number only.kept)
-    (λ only. entry_status only.kept)
+    (read_only_refusal refused_entry) contents errors
+    (λ number only. entry_text number only.kept) (λ only. entry_status only.kept) (λ only. 0)
 
 -- the request of a command line is run so over a store, by which bytes the names of scripts have,
 -- and by what is known of the input, which is read only if the store is used, and whether a read of
 -- it failed
-abbrev pub RunsAskedReading : {S I W : Type 0} → Ghosts S → (List ℕ → List ℕ → Type 0)
-    → (W → Option (List ℕ)) → Filing S → (List ℕ → Option (List ℕ)) → (I → Option (List ℕ))
-    → (I → Bool) → Request → Reporter W → I → Result ℕ RunFault → Reporter W → I → Type 0
-RunsAskedReading g made contents files content_of remaining failed asked old unread result new
-    input =
+abbrev pub RunsAskedReading : {S I W N : Type 0} → Ghosts S → (List ℕ → List ℕ → Type 0)
+    → (W → Option (List ℕ)) → (N → Option (List ℕ)) → Filing S → (List ℕ → Option (List ℕ))
+    → (I → Option (List ℕ)) → (I → Bool) → Request → Reporter W N → I → Result ℕ RunFault
+    → Reporter W N → I → Type 0
+RunsAskedReading g made contents errors files content_of remaining failed asked old unread result
+    new input =
     Uses g files (λ reporter. (reporter ≡ old) × (input ≡ unread))
-    (RunsReading g made contents asked.audits
+    (RunsReading g made contents errors asked.audits
     (map content_of (map string_bytes asked.files.items)) (remaining unread) (failed input) old)
     result new
 
 -- a command line is obeyed over a store that is only read: the store is inspected as it asks, and
 -- no input is read; or else what it asks for is run
-abbrev pub DoesAskedReading : {S I W : Type 0} → Ghosts S → (List ℕ → List ℕ → Type 0)
-    → (W → Option (List ℕ)) → Filing S → (List ℕ → Option (List ℕ)) → (I → Option (List ℕ))
-    → (I → Bool) → Request → Reporter W → I → Result ℕ RunFault → Reporter W → I → Type 0
-DoesAskedReading g made contents files content_of remaining failed asked old unread result new
-    input =
+abbrev pub DoesAskedReading : {S I W N : Type 0} → Ghosts S → (List ℕ → List ℕ → Type 0)
+    → (W → Option (List ℕ)) → (N → Option (List ℕ)) → Filing S → (List ℕ → Option (List ℕ))
+    → (I → Option (List ℕ)) → (I → Bool) → Request → Reporter W N → I → Result ℕ RunFault
+    → Reporter W N → I → Type 0
+DoesAskedReading g made contents errors files content_of remaining failed asked old unread result
+    new input =
     MatchOption (inspection_in asked)
-    (RunsAskedReading g made contents files content_of remaining failed asked
+    (RunsAskedReading g made contents errors files content_of remaining failed asked
     (record old { stops = asked.stops }) unread result new input)
     (λ inspection. Inspects g contents files inspection old result new × (input ≡ unread))

@@ -5,12 +5,14 @@ use Rattle.std.specs.Prelude.{is_err, length, max}
 use Rattle.std.specs.Io.KnownBytes.{Appends}
 use Rattle.period_core.specs.Moments.{first_moment}
 use Rattle.period_core.specs.declared.refusal.Refusal.{Refusal}
+use Rattle.script_engine.specs.declared.script.noted.Noted.{Noted}
 use Rattle.script_engine.specs.declared.script.timed.Timed.{Timed}
 use Rattle.statement_reports.specs.declared.outcome.Outcome.{Outcome}
 use Rattle.statement_reports.specs.declared.entry.Entry.{Entry}
 use Rattle.command_line.specs.Audits.{fails_audit}
 use Rattle.command_line.specs.declared.fault.RunFault.{RunFault}
 use Rattle.command_line.specs.declared.fault.RunFault.TheVariants.{Memory, Write}
+use Rattle.bitemporal_file.specs.Notes.{TellsFirst, counted, no_tally, tally_from}
 use Rattle.bitemporal_file.specs.declared.reporter.Reporter.{Reporter}
 
 -- 1 if the statement was refused, else 0
@@ -29,12 +31,17 @@ refused_entry refusal = record { result = Err refusal; audit = None }
 abbrev pub timed_refusal : {K : Type 0} → (Refusal → K) → Refusal → Timed K
 timed_refusal refused refusal = record { time = first_moment; kept = refused refusal }
 
+-- the report of a statement that is refused as it is read: it forgets no version
+abbrev pub noted_refusal : {K : Type 0} → (Refusal → K) → Refusal → Noted K
+noted_refusal refused refusal = record { kept = refused refusal; forgotten = 0 }
+
 -- a report of nothing yet
-pub record IsUnused {W : Type 0} (reporter : Reporter W) : Type 0 where
+pub record IsUnused {W N : Type 0} (reporter : Reporter W N) : Type 0 where
   pub next : reporter.next ≡ 1
   pub worst : reporter.worst ≡ 0
   pub fault : reporter.fault ≡ None
   pub unused : reporter.is_unused ≡ true
+  pub tally : reporter.notes.tally ≡ no_tally
 
 -- the fault of a report
 abbrev pub IsReportFault : RunFault → Type 0
@@ -42,14 +49,17 @@ IsReportFault fault = (fault ≡ Memory) ⊎ (fault ≡ Write)
 
 -- the reporter of a run that may stop at a refusal receives a result, and says whether the run
 -- continues
-pub record ReceivesResult {W K : Type 0} (contents : W → Option (List ℕ)) (text : ℕ → K → List ℕ)
-    (status : K → ℕ) (old : Reporter W) (kept : K) (goes_on : Bool) (new : Reporter W)
-    : Type 0 where
+pub record ReceivesResult {W N K : Type 0} (contents : W → Option (List ℕ))
+    (errors : N → Option (List ℕ)) (text : ℕ → K → List ℕ) (status : K → ℕ) (forgotten : K → ℕ)
+    (old : Reporter W N) (kept : K) (goes_on : Bool) (new : Reporter W N) : Type 0 where
   pub stops : new.stops ≡ old.stops
   pub used : new.is_unused ≡ false
   -- the greatest status so far
   pub worst : new.worst ≡ max old.worst (status kept)
   pub low : old.worst ≤ 3 → new.worst ≤ 3
+  -- the versions that it forgets are counted, and if they are the first standard error is told
+  pub tally : new.notes.tally ≡ counted old.notes.tally old.next (forgotten kept)
+  pub told : TellsFirst errors old.notes new.notes
   -- without a fault its records are written, numbered on, and nothing else
   pub written : new.fault ≡ None
       → Appends (contents old.out) (contents new.out) (text old.next kept)
@@ -80,14 +90,16 @@ EndsAtRefusal status (result ∷ results) =
     ⊎ ((status result ≡ 0) × EndsAtRefusal status results)
 
 -- the reporter receives results, one after the other
-pub record ReceivesResults {W K : Type 0} (contents : W → Option (List ℕ)) (text : ℕ → K → List ℕ)
-    (status : K → ℕ) (old : Reporter W) (results : List K) (goes_on : Bool) (new : Reporter W)
-    : Type 0 where
+pub record ReceivesResults {W N K : Type 0} (contents : W → Option (List ℕ))
+    (errors : N → Option (List ℕ)) (text : ℕ → K → List ℕ) (status : K → ℕ) (forgotten : K → ℕ)
+    (old : Reporter W N) (results : List K) (goes_on : Bool) (new : Reporter W N) : Type 0 where
   pub stops : new.stops ≡ old.stops
   -- a reporter is unused only if there are no results
   pub unused : new.is_unused ≡ true → (old.is_unused ≡ true) × (results ≡ [])
   pub worst : new.worst ≡ greatest_from status old.worst results
   pub low : old.worst ≤ 3 → new.worst ≤ 3
+  pub tally : new.notes.tally ≡ tally_from forgotten old.next old.notes.tally results
+  pub told : TellsFirst errors old.notes new.notes
   pub written : new.fault ≡ None
       → Appends (contents old.out) (contents new.out) (texts_from text old.next results)
       × (new.next ≡ old.next + length results)

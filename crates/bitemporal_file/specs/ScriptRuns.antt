@@ -1,7 +1,7 @@
 -- Scripts that are run one after the other, and their reports.
 use Rattle.std.specs.Prelude.{◌≡◌, ◌≢◌, ◌≤◌, ◌++◌, ◌∷◌, ℕ, Bool, List, [], Option, None, Result}
 use Rattle.std.specs.Prelude.{Ok, Err}
-use Rattle.std.specs.Prelude.{All, IfSome, false, length, true}
+use Rattle.std.specs.Prelude.{All, IfErr, IfSome, false, length, true, ⊤}
 use Rattle.std.specs.Io.KnownBytes.{Appends}
 use Rattle.sql_statements.specs.Lexemes.{Lexeme}
 use Rattle.script_engine.specs.script.Listening.{IsFrontRunBy}
@@ -9,8 +9,10 @@ use Rattle.command_line.specs.Reading.{read_of}
 use Rattle.period_core.specs.declared.refusal.Refusal.{Refusal}
 use Rattle.script_engine.specs.script.Script.{MayRefuseScript, most_bytes}
 use Rattle.command_line.specs.declared.fault.RunFault.{RunFault}
-use Rattle.command_line.specs.declared.fault.RunFault.TheVariants.{Script}
+use Rattle.command_line.specs.declared.fault.RunFault.TheVariants.{Memory, Read, Script, Write}
+use Rattle.bitemporal_file.specs.Notes.{TellsFirst, tally_from}
 use Rattle.bitemporal_file.specs.Reporting.{EndsAtRefusal, IsReportFault, greatest_from, texts_from}
+use Rattle.bitemporal_file.specs.declared.notes.Tally.{Tally}
 use Rattle.bitemporal_file.specs.declared.reporter.Reporter.{Reporter}
 
 -- the run of a script: its bytes, the results of its statements, and whether it came to its end
@@ -64,6 +66,12 @@ abbrev pub reports : {K : Type 0} → (ℕ → K → List ℕ) → List (ScriptR
 reports text [] = []
 reports text (run ∷ runs) = texts_from text 1 run.results ++ reports text runs
 
+-- the tally after some runs, each numbered from 1
+abbrev pub tally_after : {K : Type 0} → (K → ℕ) → Tally → List (ScriptRun K) → Tally
+tally_after forgotten tally [] = tally
+tally_after forgotten tally (run ∷ runs) =
+    tally_after forgotten (tally_from forgotten 1 tally run.results) runs
+
 -- the next script, after those that were run, may be refused as a whole
 abbrev pub MayRefuseNext : {K : Type 0} → List (Option (List ℕ)) → List (ScriptRun K) → Refusal
     → Type 0
@@ -72,18 +80,33 @@ MayRefuseNext (known ∷ readers) [] refusal =
     IfSome known (λ all. MayRefuseScript (read_of most_bytes all) refusal)
 MayRefuseNext (known ∷ readers) (run ∷ runs) refusal = MayRefuseNext readers runs refusal
 
--- the end of scripts whose results a reporter receives, before a fault or not
-pub record Ends {W K : Type 0} (contents : W → Option (List ℕ)) (text : ℕ → K → List ℕ)
-    (status : K → ℕ) (readers : List (Option (List ℕ))) (old : Reporter W)
-    (runs : List (ScriptRun K)) (ended : Result Bool RunFault) (new : Reporter W) : Type 0 where
+-- why scripts are not run to their end: memory is out, a file of theirs did not open or a read of
+-- it failed, the report fails, or one is refused as a whole
+abbrev pub IsScriptFault : Bool → RunFault → Type 0
+IsScriptFault failed Memory = ⊤
+IsScriptFault failed Read = failed ≡ true
+IsScriptFault failed Write = ⊤
+IsScriptFault failed (Script refusal) = ⊤
+IsScriptFault failed _ = ⊥
+
+-- the end of scripts, one of whose files has failed or not, and whose results a reporter receives,
+-- before a fault or not
+pub record Ends {W N K : Type 0} (contents : W → Option (List ℕ)) (errors : N → Option (List ℕ))
+    (text : ℕ → K → List ℕ) (status : K → ℕ) (forgotten : K → ℕ)
+    (readers : List (Option (List ℕ))) (failed : Bool) (old : Reporter W N)
+    (runs : List (ScriptRun K)) (ended : Result Bool RunFault) (new : Reporter W N) : Type 0 where
   pub stops : new.stops ≡ old.stops
   -- the reporter is unused only if no statement was run
   pub unused : new.is_unused ≡ true → (old.is_unused ≡ true) × (results_of runs ≡ [])
   -- the greatest status of all statements
   pub worst : new.worst ≡ greatest_from status old.worst (results_of runs)
   pub low : old.worst ≤ 3 → new.worst ≤ 3
+  -- the versions that all forget are counted, and of the first standard error is told
+  pub tally : new.notes.tally ≡ tally_after forgotten old.notes.tally runs
+  pub told : TellsFirst errors old.notes new.notes
   -- the output got the reports, and nothing else, unless the report was at fault
   pub written : new.fault ≡ None → Appends (contents old.out) (contents new.out) (reports text runs)
+  pub fault : IfErr ended (IsScriptFault failed)
   pub faulty : IfSome new.fault (λ fault. IsReportFault fault × (ended ≡ Err fault))
   -- all scripts were run, with --stop without a refusal; or they ended at the first
   pub whole : ended ≡ Ok true

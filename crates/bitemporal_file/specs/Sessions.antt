@@ -12,6 +12,7 @@ use Rattle.command_line.specs.declared.fault.RunFault.TheVariants.{Memory, Read,
 use Rattle.command_line.specs.declared.fault.RunFault.TheVariants.{Write}
 use Rattle.script_engine.specs.script.Listening.{IsFrontRunBy}
 use Rattle.script_engine.specs.script.Script.{MayRefuseScript}
+use Rattle.bitemporal_file.specs.Notes.{TellsFirst, tally_from}
 use Rattle.bitemporal_file.specs.Parts.{EndsAtSemicolon, HasNoCommand, HasNoToken}
 use Rattle.bitemporal_file.specs.Parts.{IsCommandLine, IsUnfinished}
 use Rattle.bitemporal_file.specs.Reporting.{EndsAtRefusal, IsReportFault, ReceivesResults}
@@ -81,10 +82,11 @@ TurnStep IsStep refused IsAnswered start opening (LineAnswered bytes line told) 
     IsAnswered opening line told last
 
 -- a reporter receives the results of a turn's statements, and the output what is reported of it
-pub record ReceivesTurn {W K : Type 0} (contents : W → Option (List ℕ)) (text : ℕ → K → List ℕ)
-    (status : K → ℕ) (old : Reporter W) (turn : Turn K) (goes_on : Bool) (new : Reporter W)
-    : Type 0 where
-  pub results : ReceivesResults (λ out. None) text status old (results_in turn) goes_on new
+pub record ReceivesTurn {W N K : Type 0} (contents : W → Option (List ℕ))
+    (errors : N → Option (List ℕ)) (text : ℕ → K → List ℕ) (status : K → ℕ) (forgotten : K → ℕ)
+    (old : Reporter W N) (turn : Turn K) (goes_on : Bool) (new : Reporter W N) : Type 0 where
+  pub results : ReceivesResults (λ out. None) errors text status forgotten
+      old (results_in turn) goes_on new
   pub written : new.fault ≡ None
       → Appends (contents old.out) (contents new.out) (text_in text old.next turn)
 
@@ -153,14 +155,18 @@ pub record AreTurnsOf {K : Type 0} (known : Option (List ℕ)) (failed : Bool)
   pub fault : IfErr ended (IsSessionFault failed)
 
 -- the end of a session whose reporter received the results of these turns, before a fault or not
-pub record EndsWith {W K : Type 0} (contents : W → Option (List ℕ)) (text : ℕ → K → List ℕ)
-    (status : K → ℕ) (old : Reporter W) (turns : List (Turn K)) (ended : Result Bool RunFault)
-    (new : Reporter W) : Type 0 where
+pub record EndsWith {W N K : Type 0} (contents : W → Option (List ℕ))
+    (errors : N → Option (List ℕ)) (text : ℕ → K → List ℕ) (status : K → ℕ) (forgotten : K → ℕ)
+    (old : Reporter W N) (turns : List (Turn K)) (ended : Result Bool RunFault)
+    (new : Reporter W N) : Type 0 where
   pub stops : new.stops ≡ old.stops
   -- the reporter is unused only if there are no results
   pub unused : new.is_unused ≡ true → (old.is_unused ≡ true) × (all_results turns ≡ [])
   pub worst : new.worst ≡ greatest_from status old.worst (all_results turns)
   pub low : old.worst ≤ 3 → new.worst ≤ 3
+  -- the versions that all forget are counted, and of the first standard error is told
+  pub tally : new.notes.tally ≡ tally_from forgotten old.next old.notes.tally (all_results turns)
+  pub told : TellsFirst errors old.notes new.notes
   -- the output got the reports, and nothing else, unless the report was at fault
   pub written : new.fault ≡ None
       → Appends (contents old.out) (contents new.out) (turns_text text old.next turns)

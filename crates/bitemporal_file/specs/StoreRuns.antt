@@ -9,6 +9,7 @@ use Rattle.period_core.specs.declared.refusal.Refusal.{Refusal}
 use Rattle.period_core.specs.declared.refusal.Refusal.TheVariants.{BadStore}
 use Rattle.sql_statements.specs.Lexemes.{Lexeme}
 use Rattle.history_model.specs.Histories.{History}
+use Rattle.statement_reports.specs.declared.outcome.Outcome.{Outcome}
 use Rattle.statement_reports.specs.AuditedReport.{entry_text}
 use Rattle.statement_reports.specs.Report.{text_of}
 use Rattle.version_tables.specs.Steps.{IsAsBefore}
@@ -19,6 +20,7 @@ use Rattle.script_engine.specs.engine.Stored.{DatabaseRepresents, EngineRepresen
 use Rattle.script_engine.specs.engine.Opens.{Opens}
 use Rattle.script_engine.specs.engine.Stored.{RepresentsSome, WasUsable}
 use Rattle.script_engine.specs.script.AuditedRuns.{AuditedPieceStep}
+use Rattle.script_engine.specs.script.Noted.{NotedStep, NotedStepOver}
 use Rattle.script_engine.specs.script.Script.{KeptStepOver, PieceStep, PieceStepOver}
 use Rattle.script_engine.specs.script.Timed.{TimedPieceStep, TimedPieceStepOver}
 use Rattle.command_line.specs.declared.fault.RunFault.{RunFault}
@@ -28,7 +30,7 @@ use Rattle.bitemporal_file.specs.Commands as over
 use Rattle.bitemporal_file.specs.Commands.{IsAnswered}
 use Rattle.bitemporal_file.specs.Inspections.{inspection_in, report_asked}
 use Rattle.bitemporal_file.specs.Reporting.{entry_status, refused_entry, result_status}
-use Rattle.bitemporal_file.specs.Reporting.{timed_refusal}
+use Rattle.bitemporal_file.specs.Reporting.{noted_refusal, timed_refusal}
 use Rattle.bitemporal_file.specs.ScriptRuns.{AreOfReaders, AreRun, Ends, LeadsTo, ScriptRun}
 use Rattle.bitemporal_file.specs.Sessions.{AreTurnsOf, EndsWith, LeadsThrough, Turn, runs_of}
 use Rattle.bitemporal_file.specs.StoreFiles.{Filing, IsItsFault}
@@ -69,88 +71,108 @@ pub record RefusesStore {S : Type 0} (g : Ghosts S) (opened : Held S) (refusal :
 
 -- a run of results of this kind: the step of a history that each is, and that of an engine,
 -- whatever its database holds; what a command does in a history, and what over an engine; what is
--- reported of a statement that is refused as it is read; the records of each, and its exit status.
--- The steps of a history lead so, and those of an engine
-module _ {E K W : Type 0} (IsStep : History → List Lexeme → K → History → Type 0)
+-- reported of a statement that is refused as it is read; the records of each, its exit status, and
+-- the number of versions that it forgets. The steps of a history lead so, and those of an engine
+module _ {E K W N : Type 0} (IsStep : History → List Lexeme → K → History → Type 0)
     (IsStepOver : E → List Lexeme → K → E → Type 0)
     (IsAnswered : History → List ℕ → List ℕ → History → Type 0)
     (IsAnsweredOver : E → List ℕ → List ℕ → E → Type 0)
-    (refused : Refusal → K) (contents : W → Option (List ℕ)) (text : ℕ → K → List ℕ)
-    (status : K → ℕ) (Leads : (History → History → Type 0) → Type 0)
-    (Over : (E → E → Type 0) → Type 0) where
-  -- the scripts that the readers have are run one after the other
-  abbrev pub RunsScripts : List (Option (List ℕ)) → Reporter W → Result Bool RunFault
-      → Reporter W → Type 0
-  RunsScripts readers old ended new =
+    (refused : Refusal → K) (contents : W → Option (List ℕ)) (errors : N → Option (List ℕ))
+    (text : ℕ → K → List ℕ) (status : K → ℕ) (forgotten : K → ℕ)
+    (Leads : (History → History → Type 0) → Type 0) (Over : (E → E → Type 0) → Type 0) where
+  -- the scripts that the readers have, one of which has failed or not, are run one after the other
+  abbrev pub RunsScripts : List (Option (List ℕ)) → Bool → Reporter W N → Result Bool RunFault
+      → Reporter W N → Type 0
+  RunsScripts readers failed old ended new =
       (runs : List (ScriptRun K)) × AreOfReaders readers runs × AreRun runs ended new.fault
-      × Ends contents text status readers old runs ended new
+      × Ends contents errors text status forgotten readers failed old runs ended new
       × Leads (λ history last. LeadsTo IsStep history runs last)
       × Over (λ first last. LeadsTo IsStepOver first runs last)
 
   -- the parts of an input, whose reader has failed or not, are run as they are read, and the
   -- commands between them are done
-  abbrev pub RunsSession : Option (List ℕ) → Bool → Reporter W → Result Bool RunFault
-      → Reporter W → Type 0
+  abbrev pub RunsSession : Option (List ℕ) → Bool → Reporter W N → Result Bool RunFault
+      → Reporter W N → Type 0
   RunsSession known failed old ended new =
       (turns : List (Turn K)) × AreTurnsOf known failed turns ended
       × AreRun (runs_of turns) ended new.fault
-      × EndsWith contents text status old turns ended new
+      × EndsWith contents errors text status forgotten old turns ended new
       × Leads (λ history last. LeadsThrough IsStep refused IsAnswered 0 history turns last)
       × Over (λ first last. LeadsThrough IsStepOver refused IsAnsweredOver 0 first turns last)
 
   -- scripts, or if there is none the input
-  abbrev pub RunsGiven : List (Option (List ℕ)) → Option (List ℕ) → Bool → Reporter W
-      → Result Bool RunFault → Reporter W → Type 0
+  abbrev pub RunsGiven : List (Option (List ℕ)) → Option (List ℕ) → Bool → Reporter W N
+      → Result Bool RunFault → Reporter W N → Type 0
   RunsGiven [] known failed old ended new = RunsSession known failed old ended new
   RunsGiven (reader ∷ readers) known failed old ended new =
-      RunsScripts (reader ∷ readers) old ended new
+      RunsScripts (reader ∷ readers) failed old ended new
+
+-- whether a read failed: of the files of the scripts that are named, or else of the input
+abbrev pub failed_in : {X : Type 0} → List X → (input files : Bool) → Bool
+failed_in [] input files = input
+failed_in (name ∷ names) input files = files
 
 -- a run of results of a kind over the store of a connection, from its opening to its end
-module _ {S K W : Type 0} (g : Ghosts S) (made : List ℕ → List ℕ → Type 0)
+module _ {S K W N : Type 0} (g : Ghosts S) (made : List ℕ → List ℕ → Type 0)
     (IsStep : History → List Lexeme → K → History → Type 0)
     (IsStepOver : EngineState S → List Lexeme → K → EngineState S → Type 0)
-    (refused : Refusal → K) (contents : W → Option (List ℕ)) (text : ℕ → K → List ℕ)
-    (status : K → ℕ) where
-  abbrev pub RunsKind : List (Option (List ℕ)) → Option (List ℕ) → Bool → Reporter W → Held S
-      → Result Bool RunFault → Held S → Reporter W → Type 0
+    (refused : Refusal → K) (contents : W → Option (List ℕ)) (errors : N → Option (List ℕ))
+    (text : ℕ → K → List ℕ) (status : K → ℕ) (forgotten : K → ℕ) where
+  abbrev pub RunsKind : List (Option (List ℕ)) → Option (List ℕ) → Bool → Reporter W N → Held S
+      → Result Bool RunFault → Held S → Reporter W N → Type 0
   RunsKind readers known failed old opened ended closed new =
-      RunsGiven IsStep IsStepOver (IsAnswered made) (over.IsAnsweredOver g) refused contents text
-      status
+      RunsGiven IsStep IsStepOver (IsAnswered made) (over.IsAnsweredOver g) refused contents errors
+      text status forgotten
       (LeadsDatabase g opened closed) (LeadsOver g opened closed) readers known failed old ended
       new
 
 -- a run at the system's time, or not
-module _ {S K W : Type 0} (g : Ghosts S) (made : List ℕ → List ℕ → Type 0)
+module _ {S K W N : Type 0} (g : Ghosts S) (made : List ℕ → List ℕ → Type 0)
     (IsStep : History → List Lexeme → K → History → Type 0)
     (IsStepOver : EngineState S → List Lexeme → K → EngineState S → Type 0)
-    (refused : Refusal → K) (contents : W → Option (List ℕ)) (text : ℕ → K → List ℕ)
-    (status : K → ℕ) where
-  abbrev pub RunsWithClock : Bool → List (Option (List ℕ)) → Option (List ℕ) → Bool → Reporter W
-      → Held S → Result Bool RunFault → Held S → Reporter W → Type 0
-  RunsWithClock false = RunsKind g made IsStep IsStepOver refused contents text status
+    (refused : Refusal → K) (contents : W → Option (List ℕ)) (errors : N → Option (List ℕ))
+    (text : ℕ → K → List ℕ) (status : K → ℕ) (forgotten : K → ℕ) where
+  abbrev pub RunsWithClock : Bool → List (Option (List ℕ)) → Option (List ℕ) → Bool → Reporter W N
+      → Held S → Result Bool RunFault → Held S → Reporter W N → Type 0
+  RunsWithClock false =
+      RunsKind g made IsStep IsStepOver refused contents errors text status forgotten
   RunsWithClock true =
       RunsKind g made (TimedPieceStep IsStep refused) (TimedPieceStepOver g IsStepOver refused)
-      (timed_refusal refused) contents (λ number timed. text number timed.kept)
-      (λ timed. status timed.kept)
+      (timed_refusal refused) contents errors (λ number timed. text number timed.kept)
+      (λ timed. status timed.kept) (λ timed. forgotten timed.kept)
+
+-- a run that tells of the versions that statements forget, of what is kept beside their number
+module _ {S K W N : Type 0} (g : Ghosts S) (made : List ℕ → List ℕ → Type 0)
+    (IsStep : History → List Lexeme → K → History → Type 0)
+    (IsStepOver : EngineState S → List Lexeme → K → EngineState S → Type 0)
+    (result_of : K → Result Outcome Refusal) (refused : Refusal → K)
+    (contents : W → Option (List ℕ)) (errors : N → Option (List ℕ))
+    (text : ℕ → K → List ℕ) (status : K → ℕ) where
+  abbrev pub RunsNoting : Bool → List (Option (List ℕ)) → Option (List ℕ) → Bool → Reporter W N
+      → Held S → Result Bool RunFault → Held S → Reporter W N → Type 0
+  RunsNoting =
+      RunsWithClock g made (NotedStep IsStep result_of) (NotedStepOver IsStepOver result_of)
+      (noted_refusal refused) contents errors (λ number noted. text number noted.kept)
+      (λ noted. status noted.kept) (λ noted. noted.forgotten)
 
 -- with an audit of each answer, or without; where the system makes files
-abbrev pub RunsAs : {S W : Type 0} → Ghosts S → (List ℕ → List ℕ → Type 0)
-    → (W → Option (List ℕ)) → (audits timed : Bool)
-    → List (Option (List ℕ)) → Option (List ℕ) → Bool → Reporter W → Held S
-    → Result Bool RunFault → Held S → Reporter W → Type 0
-RunsAs g made contents false =
-    RunsWithClock g made PieceStep (PieceStepOver g) (λ refusal. Err refusal) contents text_of
-    result_status
-RunsAs g made contents true =
-    RunsWithClock g made AuditedPieceStep (KeptStepOver g (λ entry. entry.result)) refused_entry
-    contents entry_text entry_status
+abbrev pub RunsAs : {S W N : Type 0} → Ghosts S → (List ℕ → List ℕ → Type 0)
+    → (W → Option (List ℕ)) → (N → Option (List ℕ)) → (audits timed : Bool)
+    → List (Option (List ℕ)) → Option (List ℕ) → Bool → Reporter W N → Held S
+    → Result Bool RunFault → Held S → Reporter W N → Type 0
+RunsAs g made contents errors false =
+    RunsNoting g made PieceStep (PieceStepOver g) (λ result. result) (λ refusal. Err refusal)
+    contents errors text_of result_status
+RunsAs g made contents errors true =
+    RunsNoting g made AuditedPieceStep (KeptStepOver g (λ entry. entry.result))
+    (λ entry. entry.result) refused_entry contents errors entry_text entry_status
 
 -- a store that is opened and left, and the run in between, or that nothing was run; if it is
 -- used, its connection was usable as it was opened if it is so as it is left, and others have in
 -- its database what they had
-abbrev pub Uses : {S T W : Type 0} → Ghosts S → Filing S → (Reporter W → Type 0)
-    → (Held S → Result T RunFault → Held S → Reporter W → Type 0)
-    → Result ℕ RunFault → Reporter W → Type 0
+abbrev pub Uses : {S T W N : Type 0} → Ghosts S → Filing S → (Reporter W N → Type 0)
+    → (Held S → Result T RunFault → Held S → Reporter W N → Type 0)
+    → Result ℕ RunFault → Reporter W N → Type 0
 -- the run is reported whole, the status is the greatest of its statements', and the store is closed
 -- with all that is committed in it
 Uses {S} {T} g files IsUntouched Runs (Ok status) new =
@@ -170,12 +192,14 @@ Uses {S} {T} g files IsUntouched Runs (Err fault) new =
 -- the request of a command line is run over a store: by how its files are opened and left, by which
 -- bytes the names of scripts have, and by what is known of the input, which is read only if the
 -- store is used, and whether a read of it failed
-abbrev pub RunsAsked : {S I W : Type 0} → Ghosts S → (List ℕ → List ℕ → Type 0)
-    → (W → Option (List ℕ)) → Filing S → (List ℕ → Option (List ℕ)) → (I → Option (List ℕ))
-    → (I → Bool) → Request → Reporter W → I → Result ℕ RunFault → Reporter W → I → Type 0
-RunsAsked g made contents files content_of remaining failed asked old unread result new input =
+abbrev pub RunsAsked : {S I W N : Type 0} → Ghosts S → (List ℕ → List ℕ → Type 0)
+    → (W → Option (List ℕ)) → (N → Option (List ℕ)) → Filing S → (List ℕ → Option (List ℕ))
+    → (I → Option (List ℕ)) → (I → Bool) → Request → Reporter W N → I → Result ℕ RunFault
+    → Reporter W N → I → Type 0
+RunsAsked g made contents errors files content_of remaining failed asked old unread result new
+    input =
     Uses g files (λ reporter. (reporter ≡ old) × (input ≡ unread))
-    (RunsAs g made contents asked.audits asked.timed
+    (RunsAs g made contents errors asked.audits asked.timed
     (map content_of (map string_bytes asked.files.items)) (remaining unread) (failed input) old)
     result new
 
@@ -184,9 +208,9 @@ abbrev pub IsRefusalFault : RunFault → Type 0
 IsRefusalFault fault = (refusal : Refusal) × IsStoreRefusal refusal × (fault ≡ Script refusal)
 
 -- an open store is inspected: no statement is reported, and the history stays
-pub record IsInspected {S T W : Type 0} (g : Ghosts S) (contents : W → Option (List ℕ))
-    (inspection : Inspection) (old : Reporter W) (opened : Held S) (ended : Result T RunFault)
-    (closed : Held S) (new : Reporter W) : Type 0 where
+pub record IsInspected {S T W N : Type 0} (g : Ghosts S) (contents : W → Option (List ℕ))
+    (inspection : Inspection) (old : Reporter W N) (opened : Held S) (ended : Result T RunFault)
+    (closed : Held S) (new : Reporter W N) : Type 0 where
   pub unreported : new ≡ record old { out = new.out }
   pub same : LeadsDatabase g opened closed (λ history last. last ≡ history)
   -- the output got the report of the history for which the database stood, and nothing else
@@ -197,19 +221,21 @@ pub record IsInspected {S T W : Type 0} (g : Ghosts S) (contents : W → Option 
   pub fault : IfErr ended (λ fault. (fault ≡ Write) ⊎ (IsRefusalFault fault × (new.out ≡ old.out)))
 
 -- a store is opened, inspected and closed
-abbrev pub Inspects : {S W : Type 0} → Ghosts S → (W → Option (List ℕ)) → Filing S → Inspection
-    → Reporter W → Result ℕ RunFault → Reporter W → Type 0
-Inspects {S} {W} g contents files inspection old result new =
+abbrev pub Inspects : {S W N : Type 0} → Ghosts S → (W → Option (List ℕ)) → Filing S → Inspection
+    → Reporter W N → Result ℕ RunFault → Reporter W N → Type 0
+Inspects {S} {W} {N} g contents files inspection old result new =
     Uses g files (λ reporter. reporter ≡ old) (IsInspected {T = Unit {0}} g contents inspection old)
     result new
 
 -- a command line is obeyed: the store is inspected as it asks, and no input is read; or else what
 -- it asks for is run
-abbrev pub DoesAsked : {S I W : Type 0} → Ghosts S → (List ℕ → List ℕ → Type 0)
-    → (W → Option (List ℕ)) → Filing S → (List ℕ → Option (List ℕ)) → (I → Option (List ℕ))
-    → (I → Bool) → Request → Reporter W → I → Result ℕ RunFault → Reporter W → I → Type 0
-DoesAsked g made contents files content_of remaining failed asked old unread result new input =
+abbrev pub DoesAsked : {S I W N : Type 0} → Ghosts S → (List ℕ → List ℕ → Type 0)
+    → (W → Option (List ℕ)) → (N → Option (List ℕ)) → Filing S → (List ℕ → Option (List ℕ))
+    → (I → Option (List ℕ)) → (I → Bool) → Request → Reporter W N → I → Result ℕ RunFault
+    → Reporter W N → I → Type 0
+DoesAsked g made contents errors files content_of remaining failed asked old unread result new
+    input =
     MatchOption (inspection_in asked)
-    (RunsAsked g made contents files content_of remaining failed asked
+    (RunsAsked g made contents errors files content_of remaining failed asked
     (record old { stops = asked.stops }) unread result new input)
     (λ inspection. Inspects g contents files inspection old result new × (input ≡ unread))

@@ -106,12 +106,12 @@ fn back_up_store<S: Alter>(
 }
 
 // Makes the copy that is asked for. Gives the exit status.
-fn back_up_named<S: Start + Copy, W>(
+fn back_up_named<S: Start + Copy, W, E>(
     rt: &HostRuntime,
     alloc: Global,
     stores: &mut StoreFiles<'_, S>,
     asked: &Backup<'_>,
-    report: &Reporter<W>,
+    report: &Reporter<W, E>,
 ) -> Result<u8, RunFault>
     requires unused { IsUnused report.now }
     requires unopened { stores.old.end ≡ Unopened }
@@ -140,7 +140,7 @@ pub fn run_backup<S: Start + Copy, W, E: Write>(
     alloc: Global,
     stores: &mut StoreFiles<'_, S>,
     asked: &Backup<'_>,
-    report: &Reporter<W>,
+    report: &Reporter<W, E>,
     err: &mut Tracked<E>,
 ) -> u8
     requires unused { IsUnused report.now }
@@ -154,7 +154,7 @@ pub fn run_backup<S: Start + Copy, W, E: Write>(
         × BacksUp ⟦<Filed<S> as Store>⟧ (filing (image_at S.Start) stores.new.end)
         ended report.now }
 {
-    match back_up_named::<S, W>(rt, alloc, stores, asked, report) {
+    match back_up_named::<S, W, E>(rt, alloc, stores, asked, report) {
         Ok(status) => status,
         Err(fault) => end_in(alloc, ProgramName::BitemporalFile, err, fault),
     }

@@ -20,6 +20,7 @@ mod held_files;
 mod inspections;
 mod listing;
 mod new_file;
+mod notes;
 mod over;
 mod parts;
 mod places;

@@ -7,12 +7,13 @@ ghost use Rattle.script_engine.specs.engine.Stored.{WasUsable};
 ghost use Rattle.sqlite_wal.specs.Files.{image_at};
 ghost use Rattle.bitemporal_file.specs.Copies.{AnyFile};
 ghost use Rattle.bitemporal_file.specs.Commands.{IsAnswered, IsAnsweredOver};
+ghost use Rattle.bitemporal_file.specs.Notes.{TellsFirst};
 ghost use Rattle.bitemporal_file.specs.Reporting.{IsUnused};
 ghost use Rattle.bitemporal_file.specs.declared.stores.StoreEnd.TheVariants.{Unopened};
 ghost use Rattle.bitemporal_file.specs.StoreFiles.{IsInFiles, IsItsFault, IsLeftAs, IsUnclosedFor};
 ghost use Rattle.bitemporal_file.specs.StoreFiles.{filing};
 ghost use Rattle.bitemporal_file.specs.StoreRuns.{LeadsDatabase, LeadsEngine, LeadsOver};
-ghost use Rattle.bitemporal_file.specs.StoreRuns.{RefusesStore};
+ghost use Rattle.bitemporal_file.specs.StoreRuns.{RefusesStore, failed_in};
 ghost use Rattle.bitemporal_file.specs.StoreRuns.{RunsAs, RunsAsked, RunsGiven, RunsSession};
 
 use crate::reporter::{Reported, Reporter};
@@ -20,32 +21,33 @@ use crate::runs::run_all;
 use crate::session::run_parts;
 use crate::stores::{Filed, StoreFiles};
 use crate::system::System;
-use command_line::{Request, RunFault, Scripts, Tracked};
+use command_line::{Request, RunFault, ScriptFiles, Scripts, Tracked};
 use period_core::Refusal;
-use script_engine::{Engine, Entry, Outcome, PieceResult, Timed};
+use script_engine::{Engine, Entry, Noted, Outcome, PieceResult, Timed};
 use sqlite::{Alter, Connection, Start};
 use sqlite_trees::store::Store;
 use std::alloc::Global;
 use std::io::{Read, Write};
 
 // Runs a session of the input, and reports each statement.
-fn run_input<S: Alter, K: PieceResult<S> + Reported + Drop, C: System, R: Read, W: Write>(
+fn run_input<S: Alter, K: PieceResult<S> + Reported + Drop, C: System, R: Read, W: Write, E: Write>(
     alloc: Global,
     engine: &mut Engine<S>,
     system: &C,
     input: &mut Tracked<R>,
-    reporter: &mut Reporter<W>,
+    reporter: &mut Reporter<W, E>,
 ) -> Result<bool, RunFault>
     requires { reporter.old.fault ≡ None }
     ensures ran { RunsSession K.is_step K.is_step_over (IsAnswered C.made) (IsAnsweredOver S.Store)
         K.refused
-        W.contents K.text K.status_of (LeadsEngine S.Store engine.old engine.new)
+        W.contents E.contents K.text K.status_of K.forgotten_of
+        (LeadsEngine S.Store engine.old engine.new)
         (λ Led. Led engine.old engine.new)
         (R.remaining input.old.inner) input.new.has_failed reporter.old result reporter.new }
     ensures usable { WasUsable S.Store engine.old.connection engine.new.connection }
     ensures others { SparesOthers S.Store engine.old.connection engine.new.connection }
 {
-    run_parts::<S, K, C, R, W>(alloc, engine, system, input, reporter)
+    run_parts::<S, K, C, R, W, E>(alloc, engine, system, input, reporter)
 }
 
 // Runs the scripts in files, or else a session of the input, and reports each statement.
@@ -56,30 +58,35 @@ fn run_files<
     Q: Scripts,
     R: Read,
     W: Write,
+    E: Write,
 >(
     alloc: Global,
     engine: &mut Engine<S>,
     system: &C,
-    scripts: &Q,
+    scripts: &mut ScriptFiles<'_, Q>,
     files: &[String],
     input: &mut Tracked<R>,
-    reporter: &mut Reporter<W>,
+    reporter: &mut Reporter<W, E>,
 ) -> Result<bool, RunFault>
     requires { reporter.old.fault ≡ None }
     ensures ran { RunsGiven K.is_step K.is_step_over (IsAnswered C.made) (IsAnsweredOver S.Store)
         K.refused
-        W.contents K.text K.status_of (LeadsEngine S.Store engine.old engine.new)
+        W.contents E.contents K.text K.status_of K.forgotten_of
+        (LeadsEngine S.Store engine.old engine.new)
         (λ Led. Led engine.old engine.new)
-        (map (Q.content scripts.now) (map string_bytes files.now))
-        (R.remaining input.old.inner) input.new.has_failed reporter.old result reporter.new }
+        (map (Q.content scripts.old.scripts.now) (map string_bytes files.now))
+        (R.remaining input.old.inner)
+        (failed_in files.now input.new.has_failed scripts.new.has_failed)
+        reporter.old result reporter.new }
     ensures low { reporter.old.worst ≤ 3 → reporter.new.worst ≤ 3 }
+    ensures told { TellsFirst E.contents reporter.old.notes reporter.new.notes }
     ensures usable { WasUsable S.Store engine.old.connection engine.new.connection }
     ensures others { SparesOthers S.Store engine.old.connection engine.new.connection }
 {
     if files.is_empty() {
-        return run_input::<S, K, C, R, W>(alloc, engine, system, input, reporter);
+        return run_input::<S, K, C, R, W, E>(alloc, engine, system, input, reporter);
     }
-    run_all::<S, K, C, Q, W>(alloc, engine, system, scripts, files, reporter)
+    run_all::<S, K, C, Q, W, E>(alloc, engine, system, scripts, files, reporter)
 }
 
 /// Runs scripts, or a session, over the store of a connection, a new one if there is none. Gives
@@ -92,34 +99,39 @@ pub(crate) fn run_store<
     Q: Scripts,
     R: Read,
     W: Write,
+    E: Write,
 >(
     alloc: Global,
     connection: Connection<S>,
     system: &C,
-    scripts: &Q,
+    scripts: &mut ScriptFiles<'_, Q>,
     files: &[String],
     input: &mut Tracked<R>,
-    reporter: &mut Reporter<W>,
+    reporter: &mut Reporter<W, E>,
 ) -> Result<(Result<bool, RunFault>, Connection<S>), (Refusal, Connection<S>)>
     requires settled { connection.in_transaction ≡ false }
     requires fresh { reporter.old.fault ≡ None }
     ensures ran { IfOk result (λ ended.
         RunsGiven K.is_step K.is_step_over (IsAnswered C.made) (IsAnsweredOver S.Store)
         K.refused
-        W.contents K.text K.status_of (LeadsDatabase S.Store connection ended.1)
+        W.contents E.contents K.text K.status_of K.forgotten_of
+        (LeadsDatabase S.Store connection ended.1)
         (LeadsOver S.Store connection ended.1)
-        (map (Q.content scripts.now) (map string_bytes files.now))
-        (R.remaining input.old.inner) input.new.has_failed reporter.old ended.0 reporter.new) }
+        (map (Q.content scripts.old.scripts.now) (map string_bytes files.now))
+        (R.remaining input.old.inner)
+        (failed_in files.now input.new.has_failed scripts.new.has_failed)
+        reporter.old ended.0 reporter.new) }
     ensures usable { IfOk result (λ ended. WasUsable S.Store connection ended.1) }
     ensures others { IfOk result (λ ended. SparesOthers S.Store connection ended.1) }
     ensures closed { IfOk result (λ ended. ended.1.in_transaction ≡ false) }
     ensures low { reporter.old.worst ≤ 3 → reporter.new.worst ≤ 3 }
+    ensures told { TellsFirst E.contents reporter.old.notes reporter.new.notes }
     ensures refused { IfErr result (λ failed.
         RefusesStore S.Store connection failed.0 failed.1
         × (reporter.new ≡ reporter.old) × (input.new ≡ input.old)) }
 {
     let mut engine = Engine::open(alloc, connection)?;
-    let ended = run_files::<S, K, C, Q, R, W>(
+    let ended = run_files::<S, K, C, Q, R, W, E>(
         alloc,
         &mut engine,
         system,
@@ -131,42 +143,45 @@ pub(crate) fn run_store<
     Ok((ended, engine.close_at_exit()))
 }
 
-// Runs the scripts with an audit of each answer, or without; at the system's time, or not.
-fn run_opened<S: Alter, C: System, Q: Scripts, R: Read, W: Write>(
+// Runs the scripts with an audit of each answer, or without; at the system's time, or not. Tells of
+// the versions that changes forget.
+fn run_opened<S: Alter, C: System, Q: Scripts, R: Read, W: Write, E: Write>(
     alloc: Global,
     connection: Connection<S>,
     system: &C,
-    scripts: &Q,
+    scripts: &mut ScriptFiles<'_, Q>,
     asked: &Request,
     input: &mut Tracked<R>,
-    reporter: &mut Reporter<W>,
+    reporter: &mut Reporter<W, E>,
 ) -> Result<(Result<bool, RunFault>, Connection<S>), (Refusal, Connection<S>)>
     requires settled { connection.in_transaction ≡ false }
     requires fresh { reporter.old.fault ≡ None }
-    ensures ran { IfOk result (λ ended. RunsAs S.Store C.made W.contents
+    ensures ran { IfOk result (λ ended. RunsAs S.Store C.made W.contents E.contents
         asked.now.audits asked.now.timed
-        (map (Q.content scripts.now) (map string_bytes asked.now.files.items))
-        (R.remaining input.old.inner) input.new.has_failed
+        (map (Q.content scripts.old.scripts.now) (map string_bytes asked.now.files.items))
+        (R.remaining input.old.inner)
+        (failed_in asked.now.files.items input.new.has_failed scripts.new.has_failed)
         reporter.old connection ended.0 ended.1 reporter.new) }
     ensures usable { IfOk result (λ ended. WasUsable S.Store connection ended.1) }
     ensures others { IfOk result (λ ended. SparesOthers S.Store connection ended.1) }
     ensures low { reporter.old.worst ≤ 3 → reporter.new.worst ≤ 3 }
+    ensures told { TellsFirst E.contents reporter.old.notes reporter.new.notes }
     ensures refused { IfErr result (λ failed.
         RefusesStore S.Store connection failed.0 failed.1
         × (reporter.new ≡ reporter.old) × (input.new ≡ input.old)) }
 {
     let files = asked.files.as_slice();
     match (asked.audits, asked.timed) {
-        (false, false) => run_store::<S, Result<Outcome, Refusal>, C, Q, R, W>(
+        (false, false) => run_store::<S, Noted<Result<Outcome, Refusal>>, C, Q, R, W, E>(
             alloc, connection, system, scripts, files, input, reporter,
         ),
-        (false, true) => run_store::<S, Timed<Result<Outcome, Refusal>>, C, Q, R, W>(
+        (false, true) => run_store::<S, Timed<Noted<Result<Outcome, Refusal>>>, C, Q, R, W, E>(
             alloc, connection, system, scripts, files, input, reporter,
         ),
-        (true, false) => run_store::<S, Entry, C, Q, R, W>(
+        (true, false) => run_store::<S, Noted<Entry>, C, Q, R, W, E>(
             alloc, connection, system, scripts, files, input, reporter,
         ),
-        (true, true) => run_store::<S, Timed<Entry>, C, Q, R, W>(
+        (true, true) => run_store::<S, Timed<Noted<Entry>>, C, Q, R, W, E>(
             alloc, connection, system, scripts, files, input, reporter,
         ),
     }
@@ -174,10 +189,10 @@ fn run_opened<S: Alter, C: System, Q: Scripts, R: Read, W: Write>(
 
 /// Closes the store after what was done over it. If that failed before any statement was run,
 /// and the store is new, no file of it stays.
-pub(crate) fn end_over<S: Start + Copy, T: Drop, W>(
+pub(crate) fn end_over<S: Start + Copy, T: Drop, W, E>(
     stores: &mut StoreFiles<'_, S>,
     name: &str,
-    report: &Reporter<W>,
+    report: &Reporter<W, E>,
     ended: Result<T, RunFault>,
     connection: Connection<Filed<S>>,
 ) -> Result<(), RunFault>
@@ -201,26 +216,28 @@ pub(crate) fn end_over<S: Start + Copy, T: Drop, W>(
 
 /// Runs what is asked for over the store that is named, with `--stop` as the report has it. Gives
 /// the exit status.
-pub(crate) fn run_over<S: Start + Copy, Q: Scripts, R: Read, W: Write>(
+pub(crate) fn run_over<S: Start + Copy, Q: Scripts, R: Read, W: Write, E: Write>(
     alloc: Global,
     stores: &mut StoreFiles<'_, S>,
-    scripts: &Q,
+    scripts: &mut ScriptFiles<'_, Q>,
     asked: &Request,
     input: &mut Tracked<R>,
-    reporter: &mut Reporter<W>,
+    reporter: &mut Reporter<W, E>,
 ) -> Result<u8, RunFault>
     requires unused { IsUnused reporter.old }
     requires unopened { stores.old.end ≡ Unopened }
-    ensures ran { RunsAsked ⟦<Filed<S> as Store>⟧ AnyFile W.contents
+    ensures ran { RunsAsked ⟦<Filed<S> as Store>⟧ AnyFile W.contents E.contents
         (filing (image_at S.Start) stores.new.end)
-        (Q.content scripts.now) (λ unread. R.remaining unread.inner)
-        (λ unread. unread.has_failed) asked.now
+        (Q.content scripts.old.scripts.now) (λ unread. R.remaining unread.inner)
+        (λ unread. failed_in asked.now.files.items unread.has_failed scripts.new.has_failed)
+        asked.now
         reporter.old input.old result reporter.new input.new }
     ensures low { reporter.old.worst ≤ 3 → IfOk result (λ status. status ≤ 3) }
+    ensures told { TellsFirst E.contents reporter.old.notes reporter.new.notes }
 {
     let name = asked.store.as_str();
     let connection = stores.open_store(name, true, asked.wait)?;
-    let ran = run_opened::<Filed<S>, HostRuntime, Q, R, W>(
+    let ran = run_opened::<Filed<S>, HostRuntime, Q, R, W, E>(
         alloc, connection, stores.rt, scripts, asked, input, reporter,
     );
     match ran {

@@ -8,13 +8,14 @@ ghost use Rattle.command_line.specs.declared.command.CommandFault.{CommandFault}
 ghost use Rattle.command_line.specs.declared.fault.RunFault.{RunFault};
 ghost use Rattle.command_line.specs.declared.file_command.Request.{Request};
 ghost use Rattle.bitemporal_file.specs.Copies.{AnyFile};
-ghost use Rattle.bitemporal_file.specs.Program.{AskNothingFor, ExitsAs, IsAskedBy, last_component};
-ghost use Rattle.bitemporal_file.specs.Program.{names_program};
+ghost use Rattle.bitemporal_file.specs.Notes.{TellsFirst};
+ghost use Rattle.bitemporal_file.specs.Program.{AskNothingFor, ExitsNoting, IsAskedBy};
+ghost use Rattle.bitemporal_file.specs.Program.{last_component, names_program};
 ghost use Rattle.bitemporal_file.specs.ReadOnly.{AreHeldBy, DoesAskedReading, reading};
 ghost use Rattle.bitemporal_file.specs.Reporting.{IsUnused};
 ghost use Rattle.bitemporal_file.specs.declared.stores.StoreEnd.TheVariants.{Unopened};
 ghost use Rattle.bitemporal_file.specs.StoreFiles.{filing};
-ghost use Rattle.bitemporal_file.specs.StoreRuns.{DoesAsked, Inspects};
+ghost use Rattle.bitemporal_file.specs.StoreRuns.{DoesAsked, Inspects, failed_in};
 
 use crate::inspections::{Inspection, inspect_store, inspection_of};
 use crate::over::{end_over, run_over};
@@ -22,7 +23,9 @@ use crate::places::Places;
 use crate::read_only::{Held, read_asked};
 use crate::reporter::Reporter;
 use crate::stores::{Filed, StoreFiles};
-use command_line::{ProgramName, Request, RunFault, Scripts, Tracked, end_in, parse_request, show};
+use command_line::{
+    ProgramName, Request, RunFault, ScriptFiles, Scripts, Tracked, end_in, parse_request, show,
+};
 use sqlite::Start;
 use sqlite_disk::{Disk, Memory};
 use sqlite_trees::store::Store;
@@ -56,18 +59,19 @@ pub fn is_called(words: &[String]) -> bool
 }
 
 // Tells what is asked of the store. Gives the exit status.
-fn inspect_asked<S: Start + Copy, W: Write>(
+fn inspect_asked<S: Start + Copy, W: Write, E: Write>(
     alloc: Global,
     stores: &mut StoreFiles<'_, S>,
     asked: &Request,
     inspection: Inspection,
-    reporter: &mut Reporter<W>,
+    reporter: &mut Reporter<W, E>,
 ) -> Result<u8, RunFault>
     requires unused { IsUnused reporter.old }
     requires unopened { stores.old.end ≡ Unopened }
     ensures inspects { Inspects ⟦<Filed<S> as Store>⟧ W.contents
         (filing (image_at S.Start) stores.new.end) inspection reporter.old result reporter.new }
     ensures low { IfOk result (λ status. status ≤ 3) }
+    ensures told { TellsFirst E.contents reporter.old.notes reporter.new.notes }
 {
     let name = asked.store.as_str();
     let connection = stores.open_store(name, false, asked.wait)?;
@@ -84,53 +88,62 @@ fn inspect_asked<S: Start + Copy, W: Write>(
 }
 
 // Tells what is asked of the store, or runs what is asked for. Gives the exit status.
-fn run_asked<S: Start + Copy, Q: Scripts + Places, R: Read, W: Write>(
+fn run_asked<S: Start + Copy, Q: Scripts + Places, R: Read, W: Write, E: Write>(
     alloc: Global,
     stores: &mut StoreFiles<'_, S>,
-    scripts: &Q,
+    files: &Q,
+    scripts: &mut ScriptFiles<'_, Q>,
     asked: &Request,
     input: &mut Tracked<R>,
-    reporter: &mut Reporter<W>,
+    reporter: &mut Reporter<W, E>,
 ) -> Result<u8, RunFault>
     requires unused { IsUnused reporter.old }
     requires unopened { stores.old.end ≡ Unopened }
     ensures done { asked.now.reads_only ≡ false
-        → DoesAsked ⟦<Filed<S> as Store>⟧ AnyFile W.contents
-        (filing (image_at S.Start) stores.new.end) (Q.content scripts.now)
-        (λ unread. R.remaining unread.inner) (λ unread. unread.has_failed) asked.now
+        → DoesAsked ⟦<Filed<S> as Store>⟧ AnyFile W.contents E.contents
+        (filing (image_at S.Start) stores.new.end) (Q.content scripts.old.scripts.now)
+        (λ unread. R.remaining unread.inner)
+        (λ unread. failed_in asked.now.files.items unread.has_failed scripts.new.has_failed)
+        asked.now
         reporter.old input.old
         result reporter.new input.new }
     ensures read { asked.now.reads_only ≡ true
-        → DoesAskedReading ⟦<Held as Store>⟧ AnyFile W.contents (reading ⟦<Memory as Disk>⟧
-        (AreHeldBy (Q.leads_to scripts.now (string_bytes asked.now.store))
-        (Q.content scripts.now) (Q.may_lack scripts.now))) (Q.content scripts.now)
-        (λ unread. R.remaining unread.inner) (λ unread. unread.has_failed) asked.now
+        → DoesAskedReading ⟦<Held as Store>⟧ AnyFile W.contents E.contents
+        (reading ⟦<Memory as Disk>⟧
+        (AreHeldBy (Q.leads_to files.now (string_bytes asked.now.store))
+        (Q.content files.now) (Q.may_lack files.now))) (Q.content scripts.old.scripts.now)
+        (λ unread. R.remaining unread.inner)
+        (λ unread. failed_in asked.now.files.items unread.has_failed scripts.new.has_failed)
+        asked.now
         reporter.old input.old
         result reporter.new input.new × (stores.new ≡ stores.old) }
     ensures low { reporter.old.worst ≤ 3 → IfOk result (λ status. status ≤ 3) }
+    ensures told { TellsFirst E.contents reporter.old.notes reporter.new.notes }
 {
     if asked.reads_only {
-        return read_asked(stores.rt, alloc, scripts, asked, input, reporter);
+        return read_asked(stores.rt, alloc, files, scripts, asked, input, reporter);
     }
     if let Some(inspection) = inspection_of(asked) {
-        return inspect_asked::<S, W>(alloc, stores, asked, inspection, reporter);
+        return inspect_asked::<S, W, E>(alloc, stores, asked, inspection, reporter);
     }
     reporter.stops = asked.stops;
-    run_over::<S, Q, R, W>(alloc, stores, scripts, asked, input, reporter)
+    run_over::<S, Q, R, W, E>(alloc, stores, scripts, asked, input, reporter)
 }
 
 /// Does what the words ask for: runs scripts over the store that they name, those in files or a
 /// session of `input`, and reports each statement as soon as it is done; or lists the store's
 /// tables, or verifies the store; or shows help or the version. Gives the exit status: 0 to 3 as
-/// `bitemporal` does, for all scripts together. With 2 `err` gets a text that says why.
+/// `bitemporal` does, for all scripts together. With 2 standard error gets a text that says why.
+/// Before it is told of versions that changes ended at the very moment at which they began: of the
+/// first statement that did so as soon as it is run, and at the end how many they are.
 pub fn run_file_program<S: Start + Copy, Q: Scripts + Places, R: Read, W: Write, E: Write>(
     alloc: Global,
     words: &[String],
     stores: &mut StoreFiles<'_, S>,
-    scripts: &Q,
+    files: &Q,
+    scripts: &mut ScriptFiles<'_, Q>,
     input: &mut Tracked<R>,
-    report: &mut Reporter<W>,
-    err: &mut Tracked<E>,
+    report: &mut Reporter<W, E>,
 ) -> u8
     requires unused { IsUnused report.old }
     requires unopened { stores.old.end ≡ Unopened }
@@ -140,39 +153,55 @@ pub fn run_file_program<S: Start + Copy, Q: Scripts + Places, R: Read, W: Write,
     // nothing. Or it does what they ask for. A run of scripts is from whatever history the store
     // stood for: all results are of that run, the report is theirs, and the store stands for the
     // history to which they led: so it is for the next run. What others have in its database stays.
+    // If no version was forgotten standard error has no note, or else these come first there.
     // If the tables are listed or the store is verified, the output gets what is told of the
     // history that the store represents, no statement is reported, no input is read, and the
     // history is the same. With --read-only all that is over a database in memory, which the bytes
     // of the store's files hold: no store is opened in its files.
     ensures runs { ((fault : CommandFault) × AskNothingFor (map string_bytes words.now) fault
         × IsShown ProgramName.BitemporalFile fault result
-        (W.contents report.old.out) (W.contents report.new.out) err.new.has_failed
-        (E.contents err.old.inner) (E.contents err.new.inner)
+        (W.contents report.old.out) (W.contents report.new.out) report.new.notes.err.has_failed
+        (E.contents report.old.notes.err.inner) (E.contents report.new.notes.err.inner)
         × (stores.new ≡ stores.old) × (input.new ≡ input.old)
-        × (report.new ≡ record report.old { out = report.new.out }))
+        × (report.new ≡ record report.old { out = report.new.out; notes = report.new.notes }))
         ⊎ ((asked : Request) × IsAskedBy (map string_bytes words.now) asked
-        × (ended : Result ℕ RunFault) × ExitsAs ended result err.new.has_failed
-        (E.contents err.old.inner) (E.contents err.new.inner)
+        × (ended : Result ℕ RunFault) × (left : Reporter W E)
+        × (report.new ≡ record left { notes = report.new.notes })
+        × ExitsNoting left.notes.tally ended result report.new.notes.err.has_failed
+        (E.contents report.old.notes.err.inner) (E.contents report.new.notes.err.inner)
         × (asked.reads_only ≡ false
-        → DoesAsked ⟦<Filed<S> as Store>⟧ AnyFile W.contents
-        (filing (image_at S.Start) stores.new.end) (Q.content scripts.now)
-        (λ unread. R.remaining unread.inner) (λ unread. unread.has_failed) asked report.old
-        input.old ended report.new input.new)
+        → DoesAsked ⟦<Filed<S> as Store>⟧ AnyFile W.contents E.contents
+        (filing (image_at S.Start) stores.new.end) (Q.content scripts.old.scripts.now)
+        (λ unread. R.remaining unread.inner)
+        (λ unread. failed_in asked.files.items unread.has_failed scripts.new.has_failed)
+        asked report.old input.old ended left input.new)
         × (asked.reads_only ≡ true
-        → DoesAskedReading ⟦<Held as Store>⟧ AnyFile W.contents (reading ⟦<Memory as Disk>⟧
-        (AreHeldBy (Q.leads_to scripts.now (string_bytes asked.store))
-        (Q.content scripts.now) (Q.may_lack scripts.now)))
-        (Q.content scripts.now) (λ unread. R.remaining unread.inner)
-        (λ unread. unread.has_failed) asked report.old input.old
-        ended report.new input.new × (stores.new ≡ stores.old))) }
+        → DoesAskedReading ⟦<Held as Store>⟧ AnyFile W.contents E.contents
+        (reading ⟦<Memory as Disk>⟧
+        (AreHeldBy (Q.leads_to files.now (string_bytes asked.store))
+        (Q.content files.now) (Q.may_lack files.now)))
+        (Q.content scripts.old.scripts.now) (λ unread. R.remaining unread.inner)
+        (λ unread. failed_in asked.files.items unread.has_failed scripts.new.has_failed)
+        asked report.old input.old
+        ended left input.new × (stores.new ≡ stores.old))) }
 {
     let program = ProgramName::BitemporalFile;
     let asked = match parse_request(alloc, words) {
         Ok(asked) => asked,
-        Err(fault) => return show(alloc, program, &fault, &mut report.out, err),
+        Err(fault) => {
+            return show(
+                alloc,
+                program,
+                &fault,
+                &mut report.out,
+                &mut report.notes.err,
+            );
+        }
     };
-    match run_asked::<S, Q, R, W>(alloc, stores, scripts, &asked, input, report) {
+    let ended = run_asked::<S, Q, R, W, E>(alloc, stores, files, scripts, &asked, input, report);
+    report.notes.add_up(alloc);
+    match ended {
         Ok(status) => status,
-        Err(fault) => end_in(alloc, program, err, fault),
+        Err(fault) => end_in(alloc, program, &mut report.notes.err, fault),
     }
 }

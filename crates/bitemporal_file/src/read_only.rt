@@ -9,13 +9,14 @@ ghost use Rattle.script_engine.specs.engine.Stored.{WasUsable};
 ghost use Rattle.script_engine.specs.declared.script.read_only.ReadOnly.{ReadOnly as ReadOnlyModel};
 ghost use Rattle.command_line.specs.declared.fault.RunFault.TheVariants.{Memory as NoMemory};
 ghost use Rattle.bitemporal_file.specs.Copies.{AnyFile};
+ghost use Rattle.bitemporal_file.specs.Notes.{TellsFirst};
 ghost use Rattle.bitemporal_file.specs.ReadOnly.{AreHeldAt, AreHeldBy, FailsToOpenHeld};
 ghost use Rattle.bitemporal_file.specs.ReadOnly.{DoesAskedReading, IsReadFault};
 ghost use Rattle.bitemporal_file.specs.ReadOnly.{RunsAskedReading, RunsReading};
 ghost use Rattle.bitemporal_file.specs.ReadOnly.{read_only_refusal, reading};
 ghost use Rattle.bitemporal_file.specs.Reporting.{IsUnused};
 ghost use Rattle.bitemporal_file.specs.StoreFiles.{Finds};
-ghost use Rattle.bitemporal_file.specs.StoreRuns.{Inspects, RefusesStore};
+ghost use Rattle.bitemporal_file.specs.StoreRuns.{Inspects, RefusesStore, failed_in};
 
 use crate::held_files::{HeldFiles, read_held};
 use crate::inspections::{Inspection, inspect_store, inspection_of};
@@ -24,7 +25,7 @@ use crate::places::Places;
 use crate::reporter::{Reported, Reporter};
 use crate::stores::{fault_of, pause, tries_in};
 use crate::system::System;
-use command_line::{Request, RunFault, Scripts, Tracked};
+use command_line::{Request, RunFault, ScriptFiles, Scripts, Tracked};
 use period_core::Refusal;
 use script_engine::{Entry, Outcome, ReadOnly, ReportFault};
 use sqlite::{Alter, Connection, FileStore, Files, Options};
@@ -46,6 +47,8 @@ impl<K: Reported> Reported for ReadOnly<K> {
 
     ghost status_of = { λ (only : ReadOnlyModel K). K.status_of only.kept };
 
+    ghost forgotten_of = { λ only. 0 };
+
     ghost refused = { read_only_refusal K.refused };
 
     fn write_records<W: Write>(
@@ -59,6 +62,10 @@ impl<K: Reported> Reported for ReadOnly<K> {
 
     fn status(&self) -> u8 {
         self.kept.status()
+    }
+
+    fn forgotten(&self) -> u64 {
+        0
     }
 
     fn of_refusal(refusal: Refusal) -> ReadOnly<K> {
@@ -153,36 +160,38 @@ fn open_read<Q: Scripts + Places>(
 
 // Runs what is asked for over the store of a connection, with an audit of each answer, or without.
 // Gives the connection back.
-fn run_reading<S: Alter, C: System, Q: Scripts, R: Read, W: Write>(
+fn run_reading<S: Alter, C: System, Q: Scripts, R: Read, W: Write, E: Write>(
     alloc: Global,
     connection: Connection<S>,
     system: &C,
-    scripts: &Q,
+    scripts: &mut ScriptFiles<'_, Q>,
     asked: &Request,
     input: &mut Tracked<R>,
-    reporter: &mut Reporter<W>,
+    reporter: &mut Reporter<W, E>,
 ) -> Result<(Result<bool, RunFault>, Connection<S>), (Refusal, Connection<S>)>
     requires settled { connection.in_transaction ≡ false }
     requires fresh { reporter.old.fault ≡ None }
-    ensures ran { IfOk result (λ ended. RunsReading S.Store C.made W.contents
+    ensures ran { IfOk result (λ ended. RunsReading S.Store C.made W.contents E.contents
         asked.now.audits
-        (map (Q.content scripts.now) (map string_bytes asked.now.files.items))
-        (R.remaining input.old.inner) input.new.has_failed
+        (map (Q.content scripts.old.scripts.now) (map string_bytes asked.now.files.items))
+        (R.remaining input.old.inner)
+        (failed_in asked.now.files.items input.new.has_failed scripts.new.has_failed)
         reporter.old connection ended.0 ended.1 reporter.new) }
     ensures usable { IfOk result (λ ended. WasUsable S.Store connection ended.1) }
     ensures others { IfOk result (λ ended. SparesOthers S.Store connection ended.1) }
     ensures low { reporter.old.worst ≤ 3 → reporter.new.worst ≤ 3 }
+    ensures told { TellsFirst E.contents reporter.old.notes reporter.new.notes }
     ensures refused { IfErr result (λ failed.
         RefusesStore S.Store connection failed.0 failed.1
         × (reporter.new ≡ reporter.old) × (input.new ≡ input.old)) }
 {
     let files = asked.files.as_slice();
     if asked.audits {
-        run_store::<S, ReadOnly<Entry>, C, Q, R, W>(
+        run_store::<S, ReadOnly<Entry>, C, Q, R, W, E>(
             alloc, connection, system, scripts, files, input, reporter,
         )
     } else {
-        run_store::<S, ReadOnly<Result<Outcome, Refusal>>, C, Q, R, W>(
+        run_store::<S, ReadOnly<Result<Outcome, Refusal>>, C, Q, R, W, E>(
             alloc, connection, system, scripts, files, input, reporter,
         )
     }
@@ -190,26 +199,29 @@ fn run_reading<S: Alter, C: System, Q: Scripts, R: Read, W: Write>(
 
 // Runs what is asked for over the store that is named, of which only the files are read, with
 // `--stop` as the report has it. Gives the exit status.
-fn read_over<Q: Scripts + Places, R: Read, W: Write>(
+fn read_over<Q: Scripts + Places, R: Read, W: Write, E: Write>(
     rt: &HostRuntime,
     alloc: Global,
     files: &Q,
+    scripts: &mut ScriptFiles<'_, Q>,
     asked: &Request,
     input: &mut Tracked<R>,
-    reporter: &mut Reporter<W>,
+    reporter: &mut Reporter<W, E>,
 ) -> Result<u8, RunFault>
     requires unused { IsUnused reporter.old }
-    ensures ran { RunsAskedReading ⟦<Held as Store>⟧ AnyFile W.contents
+    ensures ran { RunsAskedReading ⟦<Held as Store>⟧ AnyFile W.contents E.contents
         (reading ⟦<Memory as Disk>⟧ (AreHeldBy (Q.leads_to files.now (string_bytes asked.now.store))
         (Q.content files.now) (Q.may_lack files.now)))
-        (Q.content files.now) (λ unread. R.remaining unread.inner)
-        (λ unread. unread.has_failed) asked.now
+        (Q.content scripts.old.scripts.now) (λ unread. R.remaining unread.inner)
+        (λ unread. failed_in asked.now.files.items unread.has_failed scripts.new.has_failed)
+        asked.now
         reporter.old input.old result reporter.new input.new }
     ensures low { reporter.old.worst ≤ 3 → IfOk result (λ status. status ≤ 3) }
+    ensures told { TellsFirst E.contents reporter.old.notes reporter.new.notes }
 {
     let connection = open_read(rt, alloc, files, asked.store.as_str(), asked.wait)?;
-    let ran = run_reading::<Held, HostRuntime, Q, R, W>(
-        alloc, connection, rt, files, asked, input, reporter,
+    let ran = run_reading::<Held, HostRuntime, Q, R, W, E>(
+        alloc, connection, rt, scripts, asked, input, reporter,
     );
     match ran {
         Ok((ended, connection)) => {
@@ -226,13 +238,13 @@ fn read_over<Q: Scripts + Places, R: Read, W: Write>(
 
 // Reports what is asked of the named store, of which only the files are read. Gives the exit
 // status.
-fn inspect_read<Q: Scripts + Places, W: Write>(
+fn inspect_read<Q: Scripts + Places, W: Write, E: Write>(
     rt: &HostRuntime,
     alloc: Global,
     files: &Q,
     asked: &Request,
     inspection: Inspection,
-    reporter: &mut Reporter<W>,
+    reporter: &mut Reporter<W, E>,
 ) -> Result<u8, RunFault>
     requires { IsUnused reporter.old }
     ensures inspects { Inspects ⟦<Held as Store>⟧ W.contents
@@ -240,6 +252,7 @@ fn inspect_read<Q: Scripts + Places, W: Write>(
         (Q.content files.now) (Q.may_lack files.now))) inspection
         reporter.old result reporter.new }
     ensures low { IfOk result (λ status. status ≤ 3) }
+    ensures told { TellsFirst E.contents reporter.old.notes reporter.new.notes }
 {
     let connection = open_read(rt, alloc, files, asked.store.as_str(), asked.wait)?;
     match inspect_store(alloc, connection, inspection, &mut reporter.out) {
@@ -257,26 +270,29 @@ fn inspect_read<Q: Scripts + Places, W: Write>(
 
 /// Does what is asked for over the store that is named, of which only the files are read. Gives the
 /// exit status.
-pub(crate) fn read_asked<Q: Scripts + Places, R: Read, W: Write>(
+pub(crate) fn read_asked<Q: Scripts + Places, R: Read, W: Write, E: Write>(
     rt: &HostRuntime,
     alloc: Global,
     files: &Q,
+    scripts: &mut ScriptFiles<'_, Q>,
     asked: &Request,
     input: &mut Tracked<R>,
-    reporter: &mut Reporter<W>,
+    reporter: &mut Reporter<W, E>,
 ) -> Result<u8, RunFault>
     requires { IsUnused reporter.old }
-    ensures done { DoesAskedReading ⟦<Held as Store>⟧ AnyFile W.contents
+    ensures done { DoesAskedReading ⟦<Held as Store>⟧ AnyFile W.contents E.contents
         (reading ⟦<Memory as Disk>⟧ (AreHeldBy (Q.leads_to files.now (string_bytes asked.now.store))
         (Q.content files.now) (Q.may_lack files.now)))
-        (Q.content files.now) (λ unread. R.remaining unread.inner)
-        (λ unread. unread.has_failed) asked.now
+        (Q.content scripts.old.scripts.now) (λ unread. R.remaining unread.inner)
+        (λ unread. failed_in asked.now.files.items unread.has_failed scripts.new.has_failed)
+        asked.now
         reporter.old input.old result reporter.new input.new }
     ensures low { reporter.old.worst ≤ 3 → IfOk result (λ status. status ≤ 3) }
+    ensures told { TellsFirst E.contents reporter.old.notes reporter.new.notes }
 {
     if let Some(inspection) = inspection_of(asked) {
         return inspect_read(rt, alloc, files, asked, inspection, reporter);
     }
     reporter.stops = asked.stops;
-    read_over(rt, alloc, files, asked, input, reporter)
+    read_over(rt, alloc, files, scripts, asked, input, reporter)
 }

@@ -6,12 +6,14 @@ ghost use Rattle.std.specs.Io.KnownBytes.{Appends};
 ghost use Rattle.period_core.specs.declared.refusal.Refusal.{Refusal};
 ghost use Rattle.statement_reports.specs.AuditedReport.{entry_text};
 ghost use Rattle.statement_reports.specs.Report.{text_of};
+ghost use Rattle.bitemporal_file.specs.Notes.{TellsFirst};
 ghost use Rattle.bitemporal_file.specs.Reporting.{IsReportFault, IsUnused};
 ghost use Rattle.bitemporal_file.specs.Reporting.{ReceivesResult, entry_status};
 ghost use Rattle.bitemporal_file.specs.Reporting.{refused_entry, result_status, timed_refusal};
 ghost use Rattle.script_engine.specs.declared.script.timed.Timed.{Timed as TimedModel};
 
-use command_line::{RunFault, has_failed};
+use crate::notes::Notes;
+use command_line::{RunFault, Tracked, has_failed};
 use period_core::{Moment, Refusal};
 use script_engine::{
     Entry, Listener, Outcome, ReportFault, Timed, write_audited_statement, write_statement,
@@ -26,6 +28,9 @@ pub(crate) trait Reported {
 
     /// The exit status for its sake.
     ghost status_of: { Self → ℕ };
+
+    /// The number of versions that it forgets.
+    ghost forgotten_of: { Self → ℕ };
 
     /// The value that is reported of a statement that is refused as it is read.
     ghost refused: { Refusal → Self };
@@ -46,6 +51,10 @@ pub(crate) trait Reported {
         ensures value { result ≡ status_of self.now }
         ensures low { result ≤ 3 };
 
+    /// The number of versions that it forgets.
+    fn forgotten(&self) -> u64
+        ensures { result ≡ forgotten_of self.now };
+
     /// Of a statement that is refused as it is read.
     fn of_refusal(refusal: Refusal) -> Self
         ensures { result ≡ refused refusal };
@@ -55,6 +64,8 @@ impl Reported for Result<Outcome, Refusal> {
     ghost text = { text_of };
 
     ghost status_of = { result_status };
+
+    ghost forgotten_of = { λ result. 0 };
 
     ghost refused = { λ refusal. Err refusal };
 
@@ -71,6 +82,10 @@ impl Reported for Result<Outcome, Refusal> {
         if self.is_err() { 1 } else { 0 }
     }
 
+    fn forgotten(&self) -> u64 {
+        0
+    }
+
     fn of_refusal(refusal: Refusal) -> Result<Outcome, Refusal> {
         Err(refusal)
     }
@@ -80,6 +95,8 @@ impl Reported for Entry {
     ghost text = { entry_text };
 
     ghost status_of = { entry_status };
+
+    ghost forgotten_of = { λ entry. 0 };
 
     ghost refused = { refused_entry };
 
@@ -102,6 +119,10 @@ impl Reported for Entry {
         }
     }
 
+    fn forgotten(&self) -> u64 {
+        0
+    }
+
     fn of_refusal(refusal: Refusal) -> Entry {
         Entry {
             result: Err(refusal),
@@ -114,6 +135,8 @@ impl<K: Reported> Reported for Timed<K> {
     ghost text = { λ number (timed : TimedModel K). K.text number timed.kept };
 
     ghost status_of = { λ (timed : TimedModel K). K.status_of timed.kept };
+
+    ghost forgotten_of = { λ (timed : TimedModel K). K.forgotten_of timed.kept };
 
     ghost refused = { timed_refusal K.refused };
 
@@ -130,6 +153,10 @@ impl<K: Reported> Reported for Timed<K> {
         self.kept.status()
     }
 
+    fn forgotten(&self) -> u64 {
+        self.kept.forgotten()
+    }
+
     fn of_refusal(refusal: Refusal) -> Timed<K> {
         Timed {
             time: Moment::first(),
@@ -138,9 +165,10 @@ impl<K: Reported> Reported for Timed<K> {
     }
 }
 
-/// A report that is written as the run goes, and what the run has come to.
+/// A report that is written as the run goes, with what standard error is told meanwhile, and what
+/// the run has come to.
 #[derive(Drop)]
-pub struct Reporter<W> {
+pub struct Reporter<W, E> {
     pub(crate) alloc: Global,
     pub(crate) out: W,
     /// The run ends after a statement whose status is not 0.
@@ -153,12 +181,15 @@ pub struct Reporter<W> {
     pub(crate) fault: Option<RunFault>,
     /// No result was received yet.
     pub(crate) is_unused: bool,
+    /// Standard error, and what is told there.
+    pub(crate) notes: Notes<E>,
 }
 
-impl<W> Reporter<W> {
+impl<W, E> Reporter<W, E> {
     /// A report of nothing yet, whose first statement has the number 1.
-    pub fn new(alloc: Global, out: W) -> Reporter<W>
+    pub fn new(alloc: Global, out: W, err: Tracked<E>) -> Reporter<W, E>
         ensures out { result.out ≡ out }
+        ensures err { result.notes.err ≡ err }
         ensures unused { IsUnused result }
     {
         Reporter {
@@ -169,11 +200,12 @@ impl<W> Reporter<W> {
             worst: 0,
             fault: None,
             is_unused: true,
+            notes: Notes::new(err),
         }
     }
 }
 
-impl<W: Write> Reporter<W> {
+impl<W: Write, E> Reporter<W, E> {
     // Writes the records of the next statement, and has them flushed. A report has no number for
     // a statement beyond 2 to the power of 64.
     fn put<K: Reported>(&mut self, kept: &K) -> Result<(), RunFault>
@@ -197,7 +229,7 @@ impl<W: Write> Reporter<W> {
     }
 }
 
-impl<W: Write> Reporter<W> {
+impl<W: Write, E> Reporter<W, E> {
     // Writes a text, and has it flushed.
     fn write_text(&mut self, text: &[u8]) -> Result<(), RunFault>
         ensures written { OnOk result
@@ -237,15 +269,18 @@ impl<W: Write> Reporter<W> {
     }
 }
 
-impl<W: Write, K: Reported + Drop> Listener<K> for Reporter<W> {
+impl<W: Write, E: Write, K: Reported + Drop> Listener<K> for Reporter<W, E> {
     ghost hears = { λ old _ kept goes_on new.
-        ReceivesResult W.contents K.text K.status_of old kept goes_on new };
+        ReceivesResult W.contents E.contents K.text K.status_of K.forgotten_of
+        old kept goes_on new };
 
     fn hear(&mut self, _number: u64, kept: K) -> bool {
         self.is_unused = false;
         let status = kept.status();
         self.worst = self.worst.max(status);
+        let number = self.next;
         let written = self.put(&kept);
+        self.notes.add(self.alloc, number, kept.forgotten());
         drop(kept);
         match written {
             Ok(()) => !self.stops || status == 0,

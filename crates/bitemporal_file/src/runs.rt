@@ -9,7 +9,7 @@ ghost use Rattle.bitemporal_file.specs.ScriptRuns.{AreOfReaders, AreRun, Ends, L
 
 use crate::reporter::{Reported, Reporter};
 use crate::system::System;
-use command_line::{RunFault, Scripts, Tracked, read_script};
+use command_line::{RunFault, ScriptFiles, Scripts, Tracked, read_script};
 use period_core::Refusal;
 use script_engine::{Engine, MOST_BYTES, PieceResult, run_over};
 use sqlite::Alter;
@@ -17,19 +17,26 @@ use std::alloc::Global;
 use std::io::{Read, Write};
 
 // Runs the script that a reader has, and reports it. Says whether the run came to its end.
-fn run_script<S: Alter, K: PieceResult<S> + Reported + Drop, C: System, R: Read, W: Write>(
+fn run_script<
+    S: Alter,
+    K: PieceResult<S> + Reported + Drop,
+    C: System,
+    R: Read,
+    W: Write,
+    E: Write,
+>(
     alloc: Global,
     engine: &mut Engine<S>,
     system: &C,
     input: &mut Tracked<R>,
-    reporter: &mut Reporter<W>,
+    reporter: &mut Reporter<W, E>,
 ) -> Result<bool, RunFault>
     requires { reporter.old.fault ≡ None }
     ensures ran { (runs : List (ScriptRun K))
         × AreOfReaders (R.remaining input.old.inner ∷ []) runs
         × AreRun runs result reporter.new.fault
-        × Ends W.contents K.text K.status_of (R.remaining input.old.inner ∷ [])
-        reporter.old runs result reporter.new
+        × Ends W.contents E.contents K.text K.status_of K.forgotten_of
+        (R.remaining input.old.inner ∷ []) input.new.has_failed reporter.old runs result reporter.new
         × LeadsTo K.is_step_over engine.old runs engine.new
         × (IsUsable S.Store engine.new.connection
         → (history : History) → EngineRepresents S.Store history engine.old
@@ -39,7 +46,7 @@ fn run_script<S: Alter, K: PieceResult<S> + Reported + Drop, C: System, R: Read,
 {
     reporter.next = 1;
     let script = read_script(alloc, input, MOST_BYTES)?;
-    match run_over::<S, K, C, Reporter<W>>(alloc, engine, system, script.as_slice(), reporter) {
+    match run_over::<S, K, C, Reporter<W, E>>(alloc, engine, system, script.as_slice(), reporter) {
         Ok(goes_on) => match reporter.fault {
             Some(fault) => Err(fault),
             None => Ok(goes_on),
@@ -49,20 +56,28 @@ fn run_script<S: Alter, K: PieceResult<S> + Reported + Drop, C: System, R: Read,
 }
 
 // Runs the script that is named.
-fn run_named<S: Alter, K: PieceResult<S> + Reported + Drop, C: System, Q: Scripts, W: Write>(
+fn run_named<
+    S: Alter,
+    K: PieceResult<S> + Reported + Drop,
+    C: System,
+    Q: Scripts,
+    W: Write,
+    E: Write,
+>(
     alloc: Global,
     engine: &mut Engine<S>,
     system: &C,
-    scripts: &Q,
+    scripts: &mut ScriptFiles<'_, Q>,
     name: &str,
-    reporter: &mut Reporter<W>,
+    reporter: &mut Reporter<W, E>,
 ) -> Result<bool, RunFault>
     requires { reporter.old.fault ≡ None }
+    ensures same { scripts.new.scripts ≡ scripts.old.scripts }
     ensures ran { (runs : List (ScriptRun K))
-        × AreOfReaders (Q.content scripts.now name.now ∷ []) runs
+        × AreOfReaders (Q.content scripts.old.scripts.now name.now ∷ []) runs
         × AreRun runs result reporter.new.fault
-        × Ends W.contents K.text K.status_of (Q.content scripts.now name.now ∷ [])
-        reporter.old runs result reporter.new
+        × Ends W.contents E.contents K.text K.status_of K.forgotten_of
+        (Q.content scripts.old.scripts.now name.now ∷ []) scripts.new.has_failed reporter.old runs result reporter.new
         × LeadsTo K.is_step_over engine.old runs engine.new
         × (IsUsable S.Store engine.new.connection
         → (history : History) → EngineRepresents S.Store history engine.old
@@ -70,12 +85,19 @@ fn run_named<S: Alter, K: PieceResult<S> + Reported + Drop, C: System, Q: Script
     ensures usable { WasUsable S.Store engine.old.connection engine.new.connection }
     ensures others { SparesOthers S.Store engine.old.connection engine.new.connection }
 {
-    match scripts.open_script(name) {
-        Ok(script) => {
-            let mut file = Tracked::new(script);
-            run_script::<S, K, C, Q::Script, W>(alloc, engine, system, &mut file, reporter)
+    match scripts.open(name) {
+        Ok(mut script) => {
+            let ended = run_script::<S, K, C, Q::Script, W, E>(
+                alloc,
+                engine,
+                system,
+                &mut script,
+                reporter,
+            );
+            scripts.note(&script);
+            ended
         }
-        Err(_) => Err(RunFault::Read),
+        Err(fault) => Err(fault),
     }
 }
 
@@ -86,19 +108,23 @@ pub(crate) fn run_all<
     C: System,
     Q: Scripts,
     W: Write,
+    E: Write,
 >(
     alloc: Global,
     engine: &mut Engine<S>,
     system: &C,
-    scripts: &Q,
+    scripts: &mut ScriptFiles<'_, Q>,
     names: &[String],
-    reporter: &mut Reporter<W>,
+    reporter: &mut Reporter<W, E>,
 ) -> Result<bool, RunFault>
     requires { reporter.old.fault ≡ None }
-    ensures ran { let readers = map (Q.content scripts.now) (map string_bytes names.now) in
+    ensures same { scripts.new.scripts ≡ scripts.old.scripts }
+    ensures ran { let readers = map (Q.content scripts.old.scripts.now)
+        (map string_bytes names.now) in
         (runs : List (ScriptRun K)) × AreOfReaders readers runs
         × AreRun runs result reporter.new.fault
-        × Ends W.contents K.text K.status_of readers reporter.old runs result reporter.new
+        × Ends W.contents E.contents K.text K.status_of K.forgotten_of
+        readers scripts.new.has_failed reporter.old runs result reporter.new
         × LeadsTo K.is_step_over engine.old runs engine.new
         × (IsUsable S.Store engine.new.connection
         → (history : History) → EngineRepresents S.Store history engine.old
@@ -107,7 +133,7 @@ pub(crate) fn run_all<
     ensures others { SparesOthers S.Store engine.old.connection engine.new.connection }
 {
     for name in names {
-        let goes_on = run_named::<S, K, C, Q, W>(
+        let goes_on = run_named::<S, K, C, Q, W, E>(
             alloc,
             engine,
             system,

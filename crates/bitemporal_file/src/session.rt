@@ -44,14 +44,14 @@ fn placed(start: usize, refusal: Refusal) -> Option<Refusal>
 
 // Reports that a part that begins at this byte is refused as a whole, as the refusal of one
 // statement. Says whether the session goes on.
-fn refuse_part<K: Reported + Drop, W: Write>(
+fn refuse_part<K: Reported + Drop, W: Write, E: Write>(
     start: usize,
     refusal: Refusal,
-    reporter: &mut Reporter<W>,
+    reporter: &mut Reporter<W, E>,
 ) -> Result<bool, RunFault>
     requires { reporter.old.fault ≡ None }
-    ensures told { IfOk result (λ goes_on. ReceivesResults W.contents K.text K.status_of
-        reporter.old
+    ensures told { IfOk result (λ goes_on. ReceivesResults W.contents E.contents K.text K.status_of
+        K.forgotten_of reporter.old
         (K.refused (placed_at start refusal) ∷ []) goes_on reporter.new) }
     ensures none { IfErr result (λ fault. (fault ≡ Memory) × (reporter.new ≡ reporter.old)) }
 {
@@ -63,17 +63,18 @@ fn refuse_part<K: Reported + Drop, W: Write>(
 
 // Runs a part as a script of its own, and reports it. If it is refused as a whole, that is
 // reported as the refusal of one statement.
-fn run_whole<S: Alter, K: PieceResult<S> + Reported + Drop, C: Clock, W: Write>(
+fn run_whole<S: Alter, K: PieceResult<S> + Reported + Drop, C: Clock, W: Write, E: Write>(
     alloc: Global,
     engine: &mut Engine<S>,
     clock: &C,
     start: usize,
     bytes: &[u8],
-    reporter: &mut Reporter<W>,
+    reporter: &mut Reporter<W, E>,
 ) -> Result<bool, RunFault>
     requires { reporter.old.fault ≡ None }
     ensures ran { IfOk result (λ goes_on. (results : List K)
-        × ReceivesResults W.contents K.text K.status_of reporter.old results goes_on reporter.new
+        × ReceivesResults W.contents E.contents K.text K.status_of K.forgotten_of
+        reporter.old results goes_on reporter.new
         × PartStep K.is_step_over K.refused start engine.old
         (record { script = bytes.now; results = results; is_whole = goes_on }) engine.new
         × (IsUsable S.Store engine.new.connection
@@ -85,19 +86,19 @@ fn run_whole<S: Alter, K: PieceResult<S> + Reported + Drop, C: Clock, W: Write>(
     ensures usable { WasUsable S.Store engine.old.connection engine.new.connection }
     ensures others { SparesOthers S.Store engine.old.connection engine.new.connection }
 {
-    match run_over::<S, K, C, Reporter<W>>(alloc, engine, clock, bytes, reporter) {
+    match run_over::<S, K, C, Reporter<W, E>>(alloc, engine, clock, bytes, reporter) {
         Ok(goes_on) => Ok(goes_on),
-        Err(refusal) => refuse_part::<K, W>(start, refusal, reporter),
+        Err(refusal) => refuse_part::<K, W, E>(start, refusal, reporter),
     }
 }
 
 // Does what the line of a command asks for, and tells it. Says whether that met no fault.
-fn run_command<S: Alter, C: System, W: Write>(
+fn run_command<S: Alter, C: System, W: Write, E>(
     alloc: Global,
     engine: &mut Engine<S>,
     system: &C,
     line: &[u8],
-    reporter: &mut Reporter<W>,
+    reporter: &mut Reporter<W, E>,
 ) -> bool
     requires { reporter.old.fault ≡ None }
     ensures told { (told : List ℕ)
@@ -121,13 +122,13 @@ fn run_command<S: Alter, C: System, W: Write>(
 
 // Runs a part that was read, or does what the line of a command asks for, and reports it. The part
 // begins at this byte of the session.
-fn run_turn<S: Alter, K: PieceResult<S> + Reported + Drop, C: System, W: Write>(
+fn run_turn<S: Alter, K: PieceResult<S> + Reported + Drop, C: System, W: Write, E: Write>(
     alloc: Global,
     engine: &mut Engine<S>,
     system: &C,
     start: usize,
     part: &Part,
-    reporter: &mut Reporter<W>,
+    reporter: &mut Reporter<W, E>,
 ) -> Result<bool, RunFault>
     requires { reporter.old.fault ≡ None }
     ensures ran { (starts : Bool) (bytes : List ℕ) (left : Option (List ℕ))
@@ -135,7 +136,8 @@ fn run_turn<S: Alter, K: PieceResult<S> + Reported + Drop, C: System, W: Write>(
         × (bytes_in turn ≡ bytes) × IsTurn starts turn left
         × (ends_line turn ≡ is_command part.now)
         × (goes_on ≡ true → All IsWhole (runs_in turn))
-        × ReceivesTurn W.contents K.text K.status_of reporter.old turn goes_on reporter.new
+        × ReceivesTurn W.contents E.contents K.text K.status_of K.forgotten_of
+        reporter.old turn goes_on reporter.new
         × TurnStep K.is_step_over K.refused (IsAnsweredOver S.Store) start
         engine.old turn engine.new
         × (IsUsable S.Store engine.new.connection
@@ -151,9 +153,9 @@ fn run_turn<S: Alter, K: PieceResult<S> + Reported + Drop, C: System, W: Write>(
     match part {
         Part::Whole(bytes) => {
             let script = bytes.as_slice();
-            run_whole::<S, K, C, W>(alloc, engine, system, start, script, reporter)
+            run_whole::<S, K, C, W, E>(alloc, engine, system, start, script, reporter)
         }
-        Part::TooLarge(_) => refuse_part::<K, W>(start, Refusal::ScriptTooLarge, reporter),
+        Part::TooLarge(_) => refuse_part::<K, W, E>(start, Refusal::ScriptTooLarge, reporter),
         Part::Command(line) => {
             let text = line.bytes.as_slice();
             Ok(run_command(alloc, engine, system, text, reporter))
@@ -170,18 +172,20 @@ pub(crate) fn run_parts<
     C: System,
     R: Read,
     W: Write,
+    E: Write,
 >(
     alloc: Global,
     engine: &mut Engine<S>,
     system: &C,
     input: &mut Tracked<R>,
-    reporter: &mut Reporter<W>,
+    reporter: &mut Reporter<W, E>,
 ) -> Result<bool, RunFault>
     requires { reporter.old.fault ≡ None }
     ensures ran { (turns : List (Turn K))
         × AreTurnsOf (R.remaining input.old.inner) input.new.has_failed turns result
         × AreRun (runs_of turns) result reporter.new.fault
-        × EndsWith W.contents K.text K.status_of reporter.old turns result reporter.new
+        × EndsWith W.contents E.contents K.text K.status_of K.forgotten_of
+        reporter.old turns result reporter.new
         × LeadsThrough K.is_step_over K.refused (IsAnsweredOver S.Store) 0
         engine.old turns engine.new
         × (IsUsable S.Store engine.new.connection
@@ -198,7 +202,7 @@ pub(crate) fn run_parts<
         let Some(part) = read_part(alloc, input, starts_line)? else {
             return Ok(true);
         };
-        let goes_on = run_turn::<S, K, C, W>(alloc, engine, system, start, &part, reporter)?;
+        let goes_on = run_turn::<S, K, C, W, E>(alloc, engine, system, start, &part, reporter)?;
         if let Some(fault) = reporter.fault {
             return Err(fault);
         }

@@ -255,10 +255,10 @@ impl<S: Start + Copy> FilesOf<'_, S, FileFrom<S>> {
 
     /// Gives a connection up, as the program ends and its report has no statement: no file is left
     /// that was not there before.
-    pub(crate) fn give_up<W>(
+    pub(crate) fn give_up<W, E>(
         &mut self,
         name: &str,
-        report: &Reporter<W>,
+        report: &Reporter<W, E>,
         connection: Connection<Filed<S>>,
     )
         requires { report.now.is_unused ≡ true }

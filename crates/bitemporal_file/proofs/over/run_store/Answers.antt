@@ -11,7 +11,7 @@ use Rattle.bitemporal_file.proofs.over.run_store.Goals as goal
 
 pub returns-clause-ran : goal.returns-clause-ran
 returns-clause-ran g c =
-    given_so g.K.PieceResult.is_step g.K.PieceResult.is_step_over (IsAnswered g.C.System.made) (IsAnsweredOver g.S.Store) g.K.Reported.refused g.W.Write.contents g.K.Reported.text g.K.Reported.status_of (LeadsEngine g.S.Store c.in_ok-engine.engine c.run_files-ended.new.engine) (λ (Led : EngineState g.row.S.Denot → EngineState g.row.S.Denot → Type 0). Led c.in_ok-engine.engine c.run_files-ended.new.engine) (LeadsDatabase g.S.Store c.args.connection c.close_at_exit.result) (LeadsOver g.S.Store c.args.connection c.close_at_exit.result)
+    given_so g.K.PieceResult.is_step g.K.PieceResult.is_step_over (IsAnswered g.C.System.made) (IsAnsweredOver g.S.Store) g.K.Reported.refused g.W.Write.contents g.E.Write.contents g.K.Reported.text g.K.Reported.status_of g.K.Reported.forgotten_of (LeadsEngine g.S.Store c.in_ok-engine.engine c.run_files-ended.new.engine) (λ (Led : EngineState g.row.S.Denot → EngineState g.row.S.Denot → Type 0). Led c.in_ok-engine.engine c.run_files-ended.new.engine) (LeadsDatabase g.S.Store c.args.connection c.close_at_exit.result) (LeadsOver g.S.Store c.args.connection c.close_at_exit.result)
     (λ (Led : History → History → Type 0) led usable history stands.
     let engine_usable = subst (IsUsable g.S.Store) c.close_at_exit.ensures.same usable in
     let opened = c.in_ok-engine.ensures.opened.represents (c.run_files-ended.ensures.usable engine_usable) history stands in

@@ -1,26 +1,22 @@
-use Rattle.std.proofs.Common.{Err, Ok, arith, inl, inr, refl}
+use Rattle.std.proofs.Common.{Err, Ok, inr, refl}
+use Rattle.bitemporal_file.proofs.NoteFacts.{all_noted}
 use Rattle.bitemporal_file.proofs.program.run_file_program.Goals as goal
 
-pub returns-in-Err-clause-status : goal.returns-in-Err-clause-status
-returns-in-Err-clause-status g c = omega (arith, c.show.ensures.status)
-
-pub returns-in-Err-clause-runs : goal.returns-in-Err-clause-runs
-returns-in-Err-clause-runs g c = inl (c.in-Err.fault, record { told = c.in-Err.ensures.refused; usual = c.in-Err.ensures.accepts }, c.show.ensures.shown, refl, refl, refl)
-
-pub run_asked-requires-clause-unused : goal.run_asked-requires-clause-unused
-run_asked-requires-clause-unused g c = c.requires.unused
-
-pub returns-in-Ok-run_asked-clause-status : goal.returns-in-Ok-run_asked-clause-status
-returns-in-Ok-run_asked-clause-status g c = c.in-Ok-run_asked.ensures.low (omega (arith, c.requires.unused.worst))
-
-pub returns-in-Ok-run_asked-clause-runs : goal.returns-in-Ok-run_asked-clause-runs
-returns-in-Ok-run_asked-clause-runs g c =
-    inr (c.in-Ok.asked, record { sound = c.in-Ok.ensures.taken; asks = c.in-Ok.ensures.asked; alone = c.in-Ok.ensures.alone; usual = c.in-Ok.ensures.accepts }, Ok c.in-Ok-run_asked.status, (refl, refl), c.in-Ok-run_asked.ensures.done, c.in-Ok-run_asked.ensures.read)
-
-pub returns-clause-status : goal.returns-clause-status
-returns-clause-status g c = omega (arith, c.end_in.ensures.status)
+pub returns-in-Ok-ended-clause-runs : goal.returns-in-Ok-ended-clause-runs
+returns-in-Ok-ended-clause-runs g c =
+    let asked = c.in-Ok.asked in
+    let ended = Ok c.in-Ok-ended.status in
+    let old = c.args.report.now in
+    let left = c.run_asked-ended.new.reporter in
+    let noted = all_noted g.E.Write.contents old.notes left.notes c.add_up.new.self c.add_up.new.self.err.has_failed (λ k. (c.requires.unused.tally k).first) c.run_asked-ended.ensures.told c.add_up.ensures.told c.add_up.ensures.failed (λ failed. failed) in
+    inr (asked, record { sound = c.in-Ok.ensures.taken; asks = c.in-Ok.ensures.asked; alone = c.in-Ok.ensures.alone; usual = c.in-Ok.ensures.accepts }, ended, left, refl, (g.E.Write.contents c.add_up.new.self.err.inner, noted, (refl, refl)), c.in-Ok-ended.ensures.done, c.in-Ok-ended.ensures.read)
 
 pub returns-clause-runs : goal.returns-clause-runs
 returns-clause-runs g c =
-    let (told, may, wrote) = c.end_in.ensures.told in
-    inr (c.in-Ok.asked, record { sound = c.in-Ok.ensures.taken; asks = c.in-Ok.ensures.asked; alone = c.in-Ok.ensures.alone; usual = c.in-Ok.ensures.accepts }, Err c.in-Err-run_asked.fault, (c.end_in.ensures.status, told, may, wrote), c.in-Err-run_asked.ensures.done, c.in-Err-run_asked.ensures.read)
+    let asked = c.in-Ok.asked in
+    let ended = Err c.in-Err-ended.fault in
+    let old = c.args.report.now in
+    let left = c.run_asked-ended.new.reporter in
+    let noted = all_noted g.E.Write.contents old.notes left.notes c.add_up.new.self c.end_in.new.err.has_failed (λ k. (c.requires.unused.tally k).first) c.run_asked-ended.ensures.told c.add_up.ensures.told c.add_up.ensures.failed c.end_in.ensures.failed in
+    let (line, may, wrote) = c.end_in.ensures.told in
+    inr (asked, record { sound = c.in-Ok.ensures.taken; asks = c.in-Ok.ensures.asked; alone = c.in-Ok.ensures.alone; usual = c.in-Ok.ensures.accepts }, ended, left, refl, (g.E.Write.contents c.add_up.new.self.err.inner, noted, (c.end_in.ensures.status, line, may, wrote)), c.in-Err-ended.ensures.done, c.in-Err-ended.ensures.read)

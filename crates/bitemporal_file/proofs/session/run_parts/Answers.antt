@@ -21,7 +21,7 @@ parts-init g c = record {
   quiet = c.requires;
   usable = λ usable. usable;
   others = spares_same g.S.Store c.args.engine.now.connection c.args.engine.now.connection (λ usable. refl);
-  ran = ([], refl, refl, All-nil _, refl, none_recorded (λ out. None) g.K.Reported.text g.K.Reported.status_of c.args.reporter.now c.requires, (λ none. Appends-nil _), refl, λ usable history stands. (history, refl, stands));
+  ran = ([], refl, refl, All-nil _, refl, none_recorded (λ out. None) g.E.Write.contents g.K.Reported.text g.K.Reported.status_of g.K.Reported.forgotten_of c.args.reporter.now c.requires, (λ none. Appends-nil _), refl, λ usable history stands. (history, refl, stands));
 }
 
 -- the read of a part failed
@@ -35,7 +35,7 @@ returns-in_err-part-clause-ran g c =
       turns,
       turns_failed _ _ _ turns fault cut (λ is. subst (λ (starts : Bool). IfSome (g.R.Read.remaining c.parts.input.inner) (λ rest. IsUnfinished rest × HasNoCommand starts rest)) line (c.in_err-part.ensures.unfinished (ap Err is))) (read_fault _ fault c.in_err-part.ensures.fault),
       all_ran (runs_of turns) (Err fault) c.parts.reporter.fault wholes,
-      failed_heard g.W.Write.contents g.K.Reported.text g.K.Reported.status_of c.args.reporter.now turns true fault c.parts.reporter c.parts.invariant.quiet told wrote,
+      failed_heard g.W.Write.contents g.E.Write.contents g.K.Reported.text g.K.Reported.status_of g.K.Reported.forgotten_of c.args.reporter.now turns true fault c.parts.reporter c.parts.invariant.quiet told wrote,
       over,
       did,
     )
@@ -48,7 +48,7 @@ returns-in_default-clause-ran g c =
       turns,
       turns_ended _ _ _ turns true cut (λ on. c.in_ok-part.ensures.none (ap Ok c.in_default.is)),
       all_ran (runs_of turns) (Ok true) c.parts.reporter.fault wholes,
-      quiet_heard g.W.Write.contents g.K.Reported.text g.K.Reported.status_of c.args.reporter.now turns true c.parts.reporter c.parts.invariant.quiet told wrote,
+      quiet_heard g.W.Write.contents g.E.Write.contents g.K.Reported.text g.K.Reported.status_of g.K.Reported.forgotten_of c.args.reporter.now turns true c.parts.reporter c.parts.invariant.quiet told wrote,
       over,
       did,
     )
@@ -65,8 +65,8 @@ returns-in_err-goes_on-clause-ran g c =
       turns,
       turns_failed _ _ _ turns fault cut (λ is. absurd (memory_fault fault is_memory is)) (read_fault _ fault (inl is_memory)),
       all_ran (runs_of turns) (Err fault) c.run_turn.new.reporter.fault wholes,
-      subst (λ (new : _). EndsWith g.W.Write.contents g.K.Reported.text g.K.Reported.status_of c.args.reporter.now turns (Err fault) new) (sym reporter)
-          (failed_heard g.W.Write.contents g.K.Reported.text g.K.Reported.status_of c.args.reporter.now turns true fault c.parts.reporter c.parts.invariant.quiet told wrote),
+      subst (λ (new : _). EndsWith g.W.Write.contents g.E.Write.contents g.K.Reported.text g.K.Reported.status_of g.K.Reported.forgotten_of c.args.reporter.now turns (Err fault) new) (sym reporter)
+          (failed_heard g.W.Write.contents g.E.Write.contents g.K.Reported.text g.K.Reported.status_of g.K.Reported.forgotten_of c.args.reporter.now turns true fault c.parts.reporter c.parts.invariant.quiet told wrote),
       subst (λ (e : EngineState g.row.S.Denot). LeadsThrough g.K.PieceResult.is_step_over g.K.Reported.refused (IsAnsweredOver g.S.Store) 0 c.args.engine.now turns e) (sym engine) over,
       λ usable history stands.
           let (last, leads, represents) = did (subst (λ (e : EngineState g.row.S.Denot). IsUsable g.S.Store e.connection) engine usable) history stands in
@@ -83,14 +83,14 @@ returns-in-Some-fault-clause-ran g c =
     let goes_on = c.in_ok-goes_on.goes_on in
     let turn_is = subst (λ (starts : Bool). IsTurn starts turn (g.R.Read.remaining c.read_part.new.input.inner)) line is_turn in
     let cut_now = cut-more true _ _ _ turns turn bytes cut whole_is took turn_is in
-    let all = heard_turn g.W.Write.contents g.K.Reported.text g.K.Reported.status_of c.args.reporter.now c.parts.reporter c.run_turn.new.reporter turns turn goes_on told here in
-    let written = written_turn g.W.Write.contents g.K.Reported.text g.K.Reported.status_of c.args.reporter.now c.parts.reporter c.run_turn.new.reporter turns turn goes_on told wrote here in
+    let all = heard_turn g.W.Write.contents g.E.Write.contents g.K.Reported.text g.K.Reported.status_of g.K.Reported.forgotten_of c.args.reporter.now c.parts.reporter c.run_turn.new.reporter turns turn goes_on told here in
+    let written = written_turn g.W.Write.contents g.E.Write.contents g.K.Reported.text g.K.Reported.status_of g.K.Reported.forgotten_of c.args.reporter.now c.parts.reporter c.run_turn.new.reporter turns turn goes_on told wrote here in
     let fault = c.in-Some-fault.fault in
-    let reported = report_fault g.W.Write.contents g.K.Reported.text g.K.Reported.status_of c.args.reporter.now (turns ++ turn ∷ []) goes_on fault c.run_turn.new.reporter c.in-Some-fault.is all in (
+    let reported = report_fault g.W.Write.contents g.E.Write.contents g.K.Reported.text g.K.Reported.status_of g.K.Reported.forgotten_of c.args.reporter.now (turns ++ turn ∷ []) goes_on fault c.run_turn.new.reporter c.in-Some-fault.is all in (
       turns ++ turn ∷ [],
       turns_failed _ _ _ (turns ++ turn ∷ []) fault cut_now (λ is. absurd (report_is_not_unfinished fault reported is)) (unwritten_report_fault _ fault reported),
       stopped_turn turns turn (Err fault) c.run_turn.new.reporter.fault wholes (λ quiet on. let no : ⊥ = cc in no),
-      faulty_heard g.W.Write.contents g.K.Reported.text g.K.Reported.status_of c.args.reporter.now (turns ++ turn ∷ []) goes_on fault c.run_turn.new.reporter c.in-Some-fault.is all written,
+      faulty_heard g.W.Write.contents g.E.Write.contents g.K.Reported.text g.K.Reported.status_of g.K.Reported.forgotten_of c.args.reporter.now (turns ++ turn ∷ []) goes_on fault c.run_turn.new.reporter c.in-Some-fault.is all written,
       over_further g.K.PieceResult.is_step_over g.K.Reported.refused (IsAnsweredOver g.S.Store) c.parts.start c.args.engine.now turns c.parts.engine turn c.run_turn.new.engine start over stepped,
       ran_further g.S.Store g.K.PieceResult.is_step g.K.Reported.refused (IsAnswered g.C.System.made) c.args.engine.now c.parts.engine c.run_turn.new.engine c.parts.start turns turn start c.run_turn.ensures.usable did went,
     )
@@ -105,14 +105,14 @@ returns-then-not-goes_on-clause-ran g c =
     let goes_on = c.in_ok-goes_on.goes_on in
     let turn_is = subst (λ (starts : Bool). IsTurn starts turn (g.R.Read.remaining c.read_part.new.input.inner)) line is_turn in
     let cut_now = cut-more true _ _ _ turns turn bytes cut whole_is took turn_is in
-    let all = heard_turn g.W.Write.contents g.K.Reported.text g.K.Reported.status_of c.args.reporter.now c.parts.reporter c.run_turn.new.reporter turns turn goes_on told here in
-    let written = written_turn g.W.Write.contents g.K.Reported.text g.K.Reported.status_of c.args.reporter.now c.parts.reporter c.run_turn.new.reporter turns turn goes_on told wrote here in
+    let all = heard_turn g.W.Write.contents g.E.Write.contents g.K.Reported.text g.K.Reported.status_of g.K.Reported.forgotten_of c.args.reporter.now c.parts.reporter c.run_turn.new.reporter turns turn goes_on told here in
+    let written = written_turn g.W.Write.contents g.E.Write.contents g.K.Reported.text g.K.Reported.status_of g.K.Reported.forgotten_of c.args.reporter.now c.parts.reporter c.run_turn.new.reporter turns turn goes_on told wrote here in
     let off : goes_on ≡ false = c.if-not-goes_on.true in (
       turns ++ turn ∷ [],
       turns_ended _ _ _ (turns ++ turn ∷ []) false cut_now (λ on. let no : ⊥ = cc in absurd no),
       stopped_turn turns turn (Ok false) c.run_turn.new.reporter.fault wholes (λ quiet on. on refl),
-      quiet_heard g.W.Write.contents g.K.Reported.text g.K.Reported.status_of c.args.reporter.now (turns ++ turn ∷ []) false c.run_turn.new.reporter c.in_default-fault.is
-          (subst (λ (flow : Bool). Heard g.K.Reported.text g.K.Reported.status_of c.args.reporter.now (all_results (turns ++ turn ∷ [])) flow c.run_turn.new.reporter) off all) written,
+      quiet_heard g.W.Write.contents g.E.Write.contents g.K.Reported.text g.K.Reported.status_of g.K.Reported.forgotten_of c.args.reporter.now (turns ++ turn ∷ []) false c.run_turn.new.reporter c.in_default-fault.is
+          (subst (λ (flow : Bool). Heard g.E.Write.contents g.K.Reported.text g.K.Reported.status_of g.K.Reported.forgotten_of c.args.reporter.now (all_results (turns ++ turn ∷ [])) flow c.run_turn.new.reporter) off all) written,
       over_further g.K.PieceResult.is_step_over g.K.Reported.refused (IsAnsweredOver g.S.Store) c.parts.start c.args.engine.now turns c.parts.engine turn c.run_turn.new.engine start over stepped,
       ran_further g.S.Store g.K.PieceResult.is_step g.K.Reported.refused (IsAnswered g.C.System.made) c.args.engine.now c.parts.engine c.run_turn.new.engine c.parts.start turns turn start c.run_turn.ensures.usable did went,
     )
@@ -127,13 +127,13 @@ returns-in-None-clause-ran g c =
     let goes_on = c.in_ok-goes_on.goes_on in
     let turn_is = subst (λ (starts : Bool). IsTurn starts turn (g.R.Read.remaining c.read_part.new.input.inner)) line is_turn in
     let cut_now = cut-more true _ _ _ turns turn bytes cut whole_is took turn_is in
-    let all = heard_turn g.W.Write.contents g.K.Reported.text g.K.Reported.status_of c.args.reporter.now c.parts.reporter c.run_turn.new.reporter turns turn goes_on told here in
-    let written = written_turn g.W.Write.contents g.K.Reported.text g.K.Reported.status_of c.args.reporter.now c.parts.reporter c.run_turn.new.reporter turns turn goes_on told wrote here in
+    let all = heard_turn g.W.Write.contents g.E.Write.contents g.K.Reported.text g.K.Reported.status_of g.K.Reported.forgotten_of c.args.reporter.now c.parts.reporter c.run_turn.new.reporter turns turn goes_on told here in
+    let written = written_turn g.W.Write.contents g.E.Write.contents g.K.Reported.text g.K.Reported.status_of g.K.Reported.forgotten_of c.args.reporter.now c.parts.reporter c.run_turn.new.reporter turns turn goes_on told wrote here in
     let on : goes_on ≡ true = c.if-not-goes_on.false in (
       turns ++ turn ∷ [],
       turns_failed _ _ _ (turns ++ turn ∷ []) Memory cut_now (λ is. let no : ⊥ = cc in absurd no) tt,
       all_ran (runs_of (turns ++ turn ∷ [])) (Err Memory) c.run_turn.new.reporter.fault (whole_more turns turn wholes (whole on)),
-      failed_heard g.W.Write.contents g.K.Reported.text g.K.Reported.status_of c.args.reporter.now (turns ++ turn ∷ []) goes_on Memory c.run_turn.new.reporter c.in_default-fault.is all written,
+      failed_heard g.W.Write.contents g.E.Write.contents g.K.Reported.text g.K.Reported.status_of g.K.Reported.forgotten_of c.args.reporter.now (turns ++ turn ∷ []) goes_on Memory c.run_turn.new.reporter c.in_default-fault.is all written,
       over_further g.K.PieceResult.is_step_over g.K.Reported.refused (IsAnsweredOver g.S.Store) c.parts.start c.args.engine.now turns c.parts.engine turn c.run_turn.new.engine start over stepped,
       ran_further g.S.Store g.K.PieceResult.is_step g.K.Reported.refused (IsAnswered g.C.System.made) c.args.engine.now c.parts.engine c.run_turn.new.engine c.parts.start turns turn start c.run_turn.ensures.usable did went,
     )
@@ -144,7 +144,7 @@ returns-clause-ran g c =
       turns,
       turns_failed _ _ _ turns Memory cut (λ is. let no : ⊥ = cc in absurd no) tt,
       all_ran (runs_of turns) (Err Memory) c.parts.reporter.fault wholes,
-      failed_heard g.W.Write.contents g.K.Reported.text g.K.Reported.status_of c.args.reporter.now turns true Memory c.parts.reporter c.parts.invariant.quiet told wrote,
+      failed_heard g.W.Write.contents g.E.Write.contents g.K.Reported.text g.K.Reported.status_of g.K.Reported.forgotten_of c.args.reporter.now turns true Memory c.parts.reporter c.parts.invariant.quiet told wrote,
       over,
       did,
     )
@@ -159,8 +159,8 @@ parts-preserved g c =
     let goes_on = c.in_ok-goes_on.goes_on in
     let turn_is = subst (λ (starts : Bool). IsTurn starts turn (g.R.Read.remaining c.read_part.new.input.inner)) line is_turn in
     let cut_now = cut-more true _ _ _ turns turn bytes cut whole_is took turn_is in
-    let all = heard_turn g.W.Write.contents g.K.Reported.text g.K.Reported.status_of c.args.reporter.now c.parts.reporter c.run_turn.new.reporter turns turn goes_on told here in
-    let written = written_turn g.W.Write.contents g.K.Reported.text g.K.Reported.status_of c.args.reporter.now c.parts.reporter c.run_turn.new.reporter turns turn goes_on told wrote here in
+    let all = heard_turn g.W.Write.contents g.E.Write.contents g.K.Reported.text g.K.Reported.status_of g.K.Reported.forgotten_of c.args.reporter.now c.parts.reporter c.run_turn.new.reporter turns turn goes_on told here in
+    let written = written_turn g.W.Write.contents g.E.Write.contents g.K.Reported.text g.K.Reported.status_of g.K.Reported.forgotten_of c.args.reporter.now c.parts.reporter c.run_turn.new.reporter turns turn goes_on told wrote here in
     let on : goes_on ≡ true = c.if-not-goes_on.false in
     let sum : c.in-Some-checked_add.end ≡ c.parts.start + c.len.result = search rules in
     record {
@@ -173,7 +173,7 @@ parts-preserved g c =
         c.is_command-starts_line.ensures ∙ sym line_before ∙ sym (begins-more true turns turn),
         whole_more turns turn wholes (whole on),
         omega (arith, sum, start, bytes-length turns turn, ap length whole_is, c.len.ensures bytes (part-kept c.parts.starts_line bytes _ _ is_part)),
-        subst (λ (flow : Bool). Heard g.K.Reported.text g.K.Reported.status_of c.args.reporter.now (all_results (turns ++ turn ∷ [])) flow c.run_turn.new.reporter) on all,
+        subst (λ (flow : Bool). Heard g.E.Write.contents g.K.Reported.text g.K.Reported.status_of g.K.Reported.forgotten_of c.args.reporter.now (all_results (turns ++ turn ∷ [])) flow c.run_turn.new.reporter) on all,
         written,
         over_further g.K.PieceResult.is_step_over g.K.Reported.refused (IsAnsweredOver g.S.Store) c.parts.start c.args.engine.now turns c.parts.engine turn c.run_turn.new.engine start over stepped,
         ran_further g.S.Store g.K.PieceResult.is_step g.K.Reported.refused (IsAnswered g.C.System.made) c.args.engine.now c.parts.engine c.run_turn.new.engine c.parts.start turns turn start c.run_turn.ensures.usable did went,

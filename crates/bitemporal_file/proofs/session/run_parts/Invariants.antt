@@ -18,8 +18,8 @@ invariant-parts g l = record {
       × (l.starts_line ≡ begins_after true turns)
       × All IsWhole (runs_of turns)
       × (l.start ≡ length (bytes_of turns))
-      × Heard g.K.Reported.text g.K.Reported.status_of l.fn.reporter (all_results turns) true l.reporter
-      × Written g.W.Write.contents g.K.Reported.text g.K.Reported.status_of l.fn.reporter turns l.reporter
+      × Heard g.E.Write.contents g.K.Reported.text g.K.Reported.status_of g.K.Reported.forgotten_of l.fn.reporter (all_results turns) true l.reporter
+      × Written g.W.Write.contents g.E.Write.contents g.K.Reported.text g.K.Reported.status_of g.K.Reported.forgotten_of l.fn.reporter turns l.reporter
       × LeadsThrough g.K.PieceResult.is_step_over g.K.Reported.refused (IsAnsweredOver g.S.Store) 0 l.fn.engine turns l.engine
       × (IsUsable g.S.Store l.engine.connection → (history : History) → EngineRepresents g.S.Store history l.fn.engine → RepresentsSome g.S.Store (LeadsThrough g.K.PieceResult.is_step g.K.Reported.refused (IsAnswered g.C.System.made) 0 history turns) l.engine);
 }
