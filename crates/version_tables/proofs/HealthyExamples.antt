@@ -1,10 +1,9 @@
 -- Two rows with room behind them, the same in another order, and an index that others lay over bt_version.
-use Rattle.std.proofs.Common.{◌≡◌, ◌∙◌, ◌-◌, ◌∷◌, [], List, Less, arith, codes, pos, refl, sym, ap}
+use Rattle.std.proofs.Common.{◌∙◌, ◌-◌, ◌∷◌, [], arith, codes, pos, sym}
 use Rattle.std.proofs.lemmas.Int.{ints}
 use Rattle.period_core.specs.Encoding.{greatest_number}
 use Rattle.sqlite.specs.Order.{Row}
 use Rattle.sqlite.specs.declared.types.Value.TheVariants.{Int}
-use Rattle.sqlite_schema.specs.declared.schema.Index.{Index}
 use Rattle.sqlite_value.proofs.OrderLemmas.{value_cmp-Int}
 use Rattle.version_tables.specs.Healthy.{HaveRoomFor, HasNoIndexOfOthers}
 use Rattle.version_tables.specs.Tables.{nothing_else, schema_with, store_schema, version_index}

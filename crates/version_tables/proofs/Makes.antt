@@ -28,7 +28,6 @@ use Rattle.sqlite_catalog.specs.Change.{automatics, is_reserved, is_used}
 use Rattle.sqlite_catalog.specs.Listing.{is_fit, is_formed}
 use Rattle.sqlite_catalog.specs.declared.error.Refusal.{Refusal}
 use Rattle.sqlite_catalog.specs.declared.error.Refusal.TheVariants.{BadKey, BadName, BadText, Invalid, NameTaken, TooBig, Violates}
-use Rattle.sqlite_resolve.specs.Compile.{first}
 use Rattle.sqlite_rules.specs.Edit.{Edit, IsOversized}
 use Rattle.sqlite_rules.specs.Lists.{Has}
 use Rattle.sqlite_schema.specs.Names.{same_name}
