@@ -1,4 +1,5 @@
 pub mod Cuts
+pub mod Ends
 mod Examples
 pub mod Forked
 pub mod Given

@@ -9,3 +9,4 @@ pub mod Targets
 pub mod Edits
 pub mod Undos
 pub mod Seeks
+pub mod LastKeys

@@ -1,15 +1,20 @@
 //! The rows, and their edits.
 
-ghost use Rattle.std.specs.Prelude.{◌≡◌, ◌<◌, ◌≤◌, [], IfOk, IsTrue, OnErr, length, slice_set};
-ghost use Rattle.sqlite_trees.specs.Tree.{IsIndex, insert_entry, order_of, put_row, remove_entry};
-ghost use Rattle.sqlite_trees.specs.Tree.{rowid, sought, without_rowid};
+ghost use Rattle.std.specs.Prelude.{◌≡◌, ◌<◌, ◌≤◌, [], IfOk, IsTrue, OnErr, drop, length};
+ghost use Rattle.std.specs.Prelude.{slice_set};
+ghost use Rattle.sqlite_trees.specs.Tree.{IsIndex, from_key, insert_entry, order_of, put_row};
+ghost use Rattle.sqlite_trees.specs.Tree.{remove_entry, rowid, sought, without_rowid};
 ghost use Rattle.sqlite_trees.specs.View.{Finds, IsShaped, is_int};
+ghost use Rattle.sqlite_value.specs.Keys.{prefix_cmp};
 ghost use Rattle.ordered_rows.specs.Cursors.{Gives, left};
 ghost use Rattle.ordered_rows.specs.Edits.{IsCut, IsPlaced, inserted, removed};
 ghost use Rattle.ordered_rows.specs.Forks.{most};
+ghost use Rattle.ordered_rows.specs.LastKeys.{EndBelow};
+ghost use Rattle.ordered_rows.specs.Seeks.{IsSeekable};
 ghost use Rattle.ordered_rows.specs.Targets.{side};
 ghost use Rattle.ordered_rows.specs.Undos.{Undoes, undone};
 
+use crate::abbreviated_key::AbbreviatedKey;
 use crate::cursor::RowCursor;
 use crate::stored_row::StoredRow;
 use crate::target::{Probe, Target};
@@ -22,11 +27,13 @@ use sqlite_value::value::ValueRef;
 use std::alloc::{AllocError, Global};
 use std::marker::Model;
 
-/// Rows in order, which contracts see as their list.
+/// Rows in order, which contracts see as their list. The abbreviated key of the last row is kept
+/// while rows are added behind all others, so that the place of the next one is known by it.
 #[derive(Drop)]
 pub struct OrderedRows {
     alloc: Global,
     tree: BalancedTree,
+    last: Option<AbbreviatedKey>,
 }
 
 impl Model for OrderedRows {
@@ -40,6 +47,11 @@ impl Model for OrderedRows {
     ghost coded = { coded_list the_row.coded };
 
     ghost view = { λ r. r.tree.rows };
+
+    ghost use Rattle.std.specs.Prelude.{IfSome};
+    ghost use Rattle.ordered_rows.specs.LastKeys.{IsLastKey};
+
+    ghost invariant = { λ r. IfSome r.last (IsLastKey r.tree.rows) };
 }
 
 impl OrderedRows {
@@ -50,6 +62,7 @@ impl OrderedRows {
         OrderedRows {
             alloc,
             tree: BalancedTree::empty(),
+            last: None,
         }
     }
 
@@ -58,6 +71,9 @@ impl OrderedRows {
         requires { IsShaped Shape.Table self.now }
         ensures { IfOk result (Finds self.now id row.new) }
     {
+        if self.ends_below(Target::Rowid(id)) {
+            return Ok(false);
+        }
         self.tree.find(Target::Rowid(id), row)
     }
 
@@ -136,6 +152,7 @@ impl OrderedRows {
                 self.take_out(at);
             }
             InverseEdit::In(at, fork) => {
+                self.last = None;
                 self.tree = self.tree.take().inserted(at, fork);
             }
             InverseEdit::Over(at, row) => {
@@ -158,7 +175,7 @@ impl OrderedRows {
     {
         let probe = Probe::new(key_order(shape), key);
         let at = match direction {
-            Direction::Forward => self.tree.rank_from(&probe),
+            Direction::Forward => self.rank_from(&probe),
             Direction::Backward => self.tree.rank_up_to(&probe),
         };
         if at == u32::MAX {
@@ -195,6 +212,54 @@ impl OrderedRows {
         Ok(true)
     }
 
+    // Whether the key of the last row tells that this is below the target.
+    fn ends_below(&self, target: Target<'_>) -> bool
+        ensures { IsTrue result → EndBelow (side target.entry) self.now }
+    {
+        match self.last {
+            Some(last) => target.is_above(last),
+            None => false,
+        }
+    }
+
+    // Whether the key of the last row tells that this is before the probe's key.
+    fn ends_before(&self, probe: &Probe<'_>) -> bool
+        ensures { IsTrue result
+            → EndBelow (λ r. prefix_cmp probe.now.order r probe.now.row.now) self.now }
+    {
+        match self.last {
+            Some(last) => probe.cmp_abbreviated(last).is_lt(),
+            None => false,
+        }
+    }
+
+    // The number of the rows below the target, and whether there is one at it.
+    fn rank(&self, target: Target<'_>) -> (u32, bool)
+        requires { IsCut (side target) self.now }
+        ensures within { result.0 ≤ length self.now }
+        ensures is { result.0 < most → IsPlaced (side target.entry) self.now result.0 result.1 }
+    {
+        if self.ends_below(target) {
+            (self.tree.count(), false)
+        } else {
+            self.tree.rank(target)
+        }
+    }
+
+    // The number of the rows below the key, where a cursor forward begins.
+    fn rank_from(&self, probe: &Probe<'_>) -> u32
+        requires { IsSeekable probe.now.order probe.now.row.now self.now }
+        ensures within { result ≤ length self.now }
+        ensures is { result < most
+            → from_key probe.now.order probe.now.row.now self.now ≡ drop result self.now }
+    {
+        if self.ends_before(probe) {
+            self.tree.count()
+        } else {
+            self.tree.rank_from(probe)
+        }
+    }
+
     // The rank of the target, and whether a row exists. It fails if the rank does not fit 32
     // bits.
     fn placed(&self, target: Target<'_>) -> Result<(u32, bool), AllocError>
@@ -203,7 +268,7 @@ impl OrderedRows {
             × IsPlaced (side target.entry) self.now found.0 found.1) }
         ensures err { OnErr result (most ≤ length self.now) }
     {
-        let (at, found) = self.tree.rank(target);
+        let (at, found) = self.rank(target);
         if at == u32::MAX {
             return Err(AllocError);
         }
@@ -217,6 +282,11 @@ impl OrderedRows {
         ensures ok { IfOk result (Undoes self.old self.new (inserted at new)) }
         ensures err { OnErr result (self.new ≡ self.old) }
     {
+        let last = if at == self.tree.count() {
+            Some(new.abbreviated())
+        } else {
+            None
+        };
         let (left, right) = (BalancedTree::empty(), BalancedTree::empty());
         let fork = Box::new(
             self.alloc,
@@ -226,6 +296,7 @@ impl OrderedRows {
                 row: new,
             },
         )?;
+        self.last = last;
         self.tree = self.tree.take().inserted(at, fork);
         Ok(Undo {
             inverse: InverseEdit::Out(at),
@@ -237,6 +308,7 @@ impl OrderedRows {
         requires { at < most }
         ensures { Undoes self.old self.new (λ rows. slice_set rows at new) result }
     {
+        self.last = None;
         let (tree, taken) = self.tree.take().replaced(at, new);
         self.tree = tree;
         match taken {
@@ -252,6 +324,7 @@ impl OrderedRows {
         requires { at < most }
         ensures { Undoes self.old self.new (removed at) result }
     {
+        self.last = None;
         let (tree, taken) = self.tree.take().removed(at);
         self.tree = tree;
         match taken {

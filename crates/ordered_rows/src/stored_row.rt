@@ -1,10 +1,11 @@
 //! A row of a tree, with its abbreviated key.
 
-ghost use Rattle.std.specs.Prelude.{◌≡◌, ◌≢◌, IfOk};
+ghost use Rattle.std.specs.Prelude.{◌≡◌, IfOk};
 ghost use Rattle.sqlite_trees.specs.Tree.{rowid};
 ghost use Rattle.sqlite_value.specs.Keys.{entry_cmp, prefix_cmp};
 ghost use Rattle.sqlite_value.specs.Order.{value_cmp};
 ghost use Rattle.sqlite_value.specs.declared.value.Value.TheVariants.{Int};
+ghost use Rattle.ordered_rows.specs.AbbreviatedKeys.{IsAbbreviationOf};
 
 use crate::abbreviated_key::AbbreviatedKey;
 use crate::target::Probe;
@@ -46,6 +47,13 @@ impl StoredRow {
         Ok(StoredRow { abbreviated, row })
     }
 
+    /// The abbreviated key.
+    pub(crate) fn abbreviated(&self) -> AbbreviatedKey
+        ensures { IsAbbreviationOf result self.now }
+    {
+        self.abbreviated
+    }
+
     pub(crate) fn row(&self) -> &Row
         ensures { result.now ≡ self.now }
     {
@@ -68,7 +76,7 @@ impl StoredRow {
     pub(crate) fn cmp_entry(&self, probe: &Probe<'_>) -> Ordering
         ensures { result ≡ entry_cmp probe.now.order self.now probe.now.row.now }
     {
-        match self.cmp_abbreviated(probe) {
+        match probe.cmp_abbreviated(self.abbreviated) {
             Ordering::Equal => self.row.cmp_entry(probe.order, probe.row),
             found => found,
         }
@@ -79,23 +87,9 @@ impl StoredRow {
     pub(crate) fn cmp_prefix(&self, probe: &Probe<'_>) -> Ordering
         ensures { result ≡ prefix_cmp probe.now.order self.now probe.now.row.now }
     {
-        match self.cmp_abbreviated(probe) {
+        match probe.cmp_abbreviated(self.abbreviated) {
             Ordering::Equal => self.row.cmp_prefix(probe.order, probe.row),
             found => found,
         }
-    }
-
-    // The order of the two by their abbreviated keys. `Equal` says nothing of the rows.
-    #[inline(always)]
-    fn cmp_abbreviated(&self, probe: &Probe<'_>) -> Ordering
-        ensures entry { result ≢ Ordering.Equal
-            → entry_cmp probe.now.order self.now probe.now.row.now ≡ result }
-        ensures prefix { result ≢ Ordering.Equal
-            → prefix_cmp probe.now.order self.now probe.now.row.now ≡ result }
-    {
-        if probe.order.digits != 0 {
-            return Ordering::Equal;
-        }
-        self.abbreviated.cmp(probe.abbreviated)
     }
 }

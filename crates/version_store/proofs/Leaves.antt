@@ -23,8 +23,10 @@ use Rattle.version_tables.specs.declared.version_key.VersionKey.{VersionKey}
 use Rattle.version_store.specs.Contents.{Contents, TableVersion, added_in, version_in}
 use Rattle.version_store.specs.Changed.{added_at, ended_at}
 use Rattle.version_store.specs.PendingRemovals.{HasExcept, is_pending, key_at}
+use Rattle.version_store.specs.Runs.{row_key}
 use Rattle.version_store.specs.Written.{Has, written, written_version}
-use Rattle.version_store.proofs.Sweeps.{ended_held, ending, equal, one_row, taken}
+use Rattle.version_tables.specs.Runs.{all_ended, is_one_of}
+use Rattle.version_store.proofs.Sweeps.{ended_held, ending, equal, one_ended, one_row, taken}
 use Rattle.version_tables.proofs.Rows.{permuted}
 
 -- ---- tests and lists
@@ -84,11 +86,14 @@ module _ (table : ℕ) (moment : ℤ) (row : VersionRow) (values : All IsColumnV
     values = ended_held table moment (row ∷ []) c.versions was.values;
   }
 
-  -- a version that began earlier is closed
-  pub closes : (old new : Database) (pending : List VersionKey) (c : Contents) → HasExcept old table moment pending c → is_eq (int_cmp row.from moment) ≡ false
-      → ((m : Records) → Represents old m → Represents new (ended key moment m)) → HasExcept new table moment pending (ended_at table moment (row ∷ []) c)
-  closes old new pending c was began made =
-      let s = same_key key in
+-- ---- rows that began earlier are closed
+
+module _ (table : ℕ) (moment : ℤ) where
+  pub close_together : (rows : List VersionRow) (held : AllByRecursion (λ (row : VersionRow). All IsColumnValue row.values) rows) (earlier : AllByRecursion (λ (row : VersionRow). is_eq (int_cmp row.from moment) ≡ false) rows)
+      (old new : Database) (pending : List VersionKey) (c : Contents) → HasExcept old table moment pending c
+      → ((m : Records) → Represents old m → Represents new (all_ended (map (row_key table) rows) moment m)) → HasExcept new table moment pending (ended_at table moment rows c)
+  close_together rows held earlier old new pending c was made =
+      let s = is_one_of (map (row_key table) rows) in
       let q = λ (v : Version). not (is_pending table moment pending v) in
       let vs = was.versions in
       let first : filter q (map (closing moment) (filter s vs)) ≡ map (closing moment) (filter s (filter q vs)) = filter-map q (closing moment) (filter s vs) ∙ ap (map (closing moment)) (exchanged q s vs) in
@@ -97,13 +102,19 @@ module _ (table : ℕ) (moment : ℤ) (row : VersionRow) (values : All IsColumnV
       record {
         versions = map (closing moment) (filter s vs) ++ filter (λ v. not (s v)) vs;
         rows = made (record (written c) { versions = vs }) was.rows;
-        others = subst₂ IsPermutation (sym parts) (sym (ap (λ f. map written_version (flat_map f c.versions)) (one_row table moment row)))
+        others = subst (λ l. IsPermutation l (map written_version (ended_at table moment rows c).versions)) (sym parts)
             (IsPermutation-trans _ _ _
             (IsPermutation-append _ _ _ _ (IsPermutation-map (closing moment) _ _ (IsPermutation-filter s _ _ was.others)) (IsPermutation-filter (λ v. not (s v)) _ _ was.others))
-            (ending (version_in table row) moment values began c.versions was.values));
+            (ending table moment rows held earlier c.versions was.values));
         definitions = was.definitions;
-        values = ended_held table moment (row ∷ []) c.versions was.values;
+        values = ended_held table moment rows c.versions was.values;
       }
+
+  -- and so is one
+  pub closes : (row : VersionRow) → All IsColumnValue row.values → (old new : Database) (pending : List VersionKey) (c : Contents) → HasExcept old table moment pending c → is_eq (int_cmp row.from moment) ≡ false
+      → ((m : Records) → Represents old m → Represents new (ended (written_version (version_in table row)) moment m)) → HasExcept new table moment pending (ended_at table moment (row ∷ []) c)
+  closes row values old new pending c was began made =
+      close_together (row ∷ []) (values, tt) (began, tt) old new pending c was (λ m is. subst (Represents new) (sym (one_ended (row_key table row) moment m)) (made m is))
 
 -- ---- a row is added
 

@@ -1,12 +1,12 @@
 -- Changes of version rows over their bytes, and one after another.
-use Rattle.std.proofs.Common.{◌≡◌, ℕ, ◌+◌, ◌<◌, ℤ, List, [], ◌∷◌, ◌++◌, map, filter, take, get_or, length, Bool, true, false, not, cond, ◌&&◌, ◌||◌, ◌==◌, refl, sym, ap, subst, ◌∙◌, append-nil, append_assoc, Ordering, Less, Equal, Greater}
-use Rattle.std.specs.List.{All, flat_map}
+use Rattle.std.proofs.Common.{◌≡◌, ℕ, ◌+◌, ◌<◌, ℤ, List, [], ◌∷◌, ◌++◌, map, filter, take, get_or, length, Bool, true, false, not, cond, ◌&&◌, ◌||◌, ◌==◌, refl, sym, ap, ap₂, subst, ◌∙◌, append-nil, append_assoc, Ordering, Less, Equal, Greater}
+use Rattle.std.specs.List.{All, AllByRecursion, flat_map}
 use Rattle.std.specs.List.Sorted.{IsPermutation}
 use Rattle.std.specs.Ordering.{int_cmp, is_eq}
 use Rattle.std.proofs.Math.Path.{fun_ext}
 use Rattle.std.proofs.lemmas.Bool.{and_parts}
 use Rattle.std.proofs.lemmas.List.Concat.{flat_map-append}
-use Rattle.std.proofs.lemmas.List.Folds.{list_any_more}
+use Rattle.std.proofs.lemmas.List.Folds.{list_any-append}
 use Rattle.std.proofs.lemmas.List.{map-append, take_more}
 use Rattle.std.proofs.lemmas.List.Sorted.{IsPermutation-refl, IsPermutation-trans, IsPermutation-cons, IsPermutation-middle}
 use Rattle.std.proofs.lemmas.Map.Lookups.{exact_signed}
@@ -20,8 +20,10 @@ use Rattle.period_core.specs.Order.{values_cmp}
 use Rattle.period_core.specs.declared.row.PeriodRow.{PeriodRow}
 use Rattle.period_core.specs.declared.version.VersionRow.{VersionRow}
 use Rattle.version_tables.specs.Represents.{Records, Represents, Version, version, same_key, closing, ended, with_clock}
+use Rattle.version_tables.specs.Runs.{all_ended, is_one_of}
 use Rattle.version_store.specs.Contents.{Contents, HaveColumnValues, TableVersion, added_in, same_version, version_in}
 use Rattle.version_store.specs.Changed.{added_at, closed_at, ended_at, is_ended, remains_of, with_clock as clock_in}
+use Rattle.version_store.specs.Runs.{row_key}
 use Rattle.version_store.specs.Written.{Has, written, written_version}
 
 -- ---- keys
@@ -75,20 +77,40 @@ module _ (k : TableVersion) (moment : ℤ) (hk : All IsColumnValue k.values) whe
       go true e more = rw (began_with v e ∙ began) more
       go false e more = ap (λ l. written_version v ∷ l) more
 
-  pub ending : is_eq (int_cmp k.from moment) ≡ false → (vs : List TableVersion) → HaveColumnValues vs
-      → IsPermutation (map (closing moment) (filter (same_key (written_version k)) (map written_version vs)) ++ filter (λ v. not (same_key (written_version k) v)) (map written_version vs)) (map written_version (flat_map (step k moment) vs))
-  ending began [] h = IsPermutation-refl _
-  ending began (v ∷ vs) h =
-      let kept = filter (same_key (written_version k)) (map written_version vs) in
-      let others = filter (λ v. not (same_key (written_version k) v)) (map written_version vs) in
-      subst (λ b. IsPermutation (map (closing moment) (cond b (written_version v ∷ kept) kept) ++ cond (not b) (written_version v ∷ others) others) (map written_version (flat_map (step k moment) (v ∷ vs))))
-      (sym (same_bytes k v hk h.0))
-      (go (same_version k v) refl kept others (ending began vs h.1))
+-- ---- rows that end together
+
+module _ (table : ℕ) (moment : ℤ) where
+  one_of : (rows : List VersionRow) → AllByRecursion (λ (row : VersionRow). All IsColumnValue row.values) rows → (v : TableVersion) → All IsColumnValue v.values → is_one_of (map (row_key table) rows) (written_version v) ≡ is_ended table rows v
+  one_of [] held v h = refl
+  one_of (row ∷ rows) held v h = ap₂ (λ a b. a || b) (same_bytes (version_in table row) v held.0 h) (one_of rows held.1 v h)
+
+  began_earlier : (rows : List VersionRow) → AllByRecursion (λ (row : VersionRow). is_eq (int_cmp row.from moment) ≡ false) rows → (v : TableVersion) → is_ended table rows v ≡ true → is_eq (int_cmp v.from moment) ≡ false
+  began_earlier [] earlier v ends = absurd cc
+  began_earlier (row ∷ rows) earlier v ends = go (same_version (version_in table row) v) refl ends (began_earlier rows earlier.1 v)
     where
-      go : (b : Bool) → same_version k v ≡ b → (kept others : List Version) → IsPermutation (map (closing moment) kept ++ others) (map written_version (flat_map (step k moment) vs))
-          → IsPermutation (map (closing moment) (cond b (written_version v ∷ kept) kept) ++ cond (not b) (written_version v ∷ others) others) (map written_version (cond b (closed_at moment v) (v ∷ []) ++ flat_map (step k moment) vs))
-      go true e kept others more = rw (began_with v e ∙ began) (IsPermutation-cons (closing moment (written_version v)) _ _ more)
-      go false e kept others more = IsPermutation-trans _ _ _ (IsPermutation-middle (map (closing moment) kept) (written_version v) others) (IsPermutation-cons (written_version v) _ _ more)
+      go : (b : Bool) → same_version (version_in table row) v ≡ b → (b || is_ended table rows v) ≡ true → (is_ended table rows v ≡ true → is_eq (int_cmp v.from moment) ≡ false) → is_eq (int_cmp v.from moment) ≡ false
+      go true same h more = ap (λ m. is_eq (int_cmp m moment)) (same_from (version_in table row) v same) ∙ earlier.0
+      go false same h more = more h
+
+  module _ (rows : List VersionRow) (held : AllByRecursion (λ (row : VersionRow). All IsColumnValue row.values) rows) (earlier : AllByRecursion (λ (row : VersionRow). is_eq (int_cmp row.from moment) ≡ false) rows) where
+    pub ending : (vs : List TableVersion) → HaveColumnValues vs
+        → IsPermutation (map (closing moment) (filter (is_one_of (map (row_key table) rows)) (map written_version vs)) ++ filter (λ v. not (is_one_of (map (row_key table) rows) v)) (map written_version vs)) (map written_version (flat_map (remains_of table moment rows) vs))
+    ending [] h = IsPermutation-refl _
+    ending (v ∷ vs) h =
+        let kept = filter (is_one_of (map (row_key table) rows)) (map written_version vs) in
+        let others = filter (λ v. not (is_one_of (map (row_key table) rows) v)) (map written_version vs) in
+        subst (λ b. IsPermutation (map (closing moment) (cond b (written_version v ∷ kept) kept) ++ cond (not b) (written_version v ∷ others) others) (map written_version (flat_map (remains_of table moment rows) (v ∷ vs))))
+        (sym (one_of rows held v h.0))
+        (go (is_ended table rows v) refl kept others (ending vs h.1))
+      where
+        go : (b : Bool) → is_ended table rows v ≡ b → (kept others : List Version) → IsPermutation (map (closing moment) kept ++ others) (map written_version (flat_map (remains_of table moment rows) vs))
+            → IsPermutation (map (closing moment) (cond b (written_version v ∷ kept) kept) ++ cond (not b) (written_version v ∷ others) others) (map written_version (cond b (closed_at moment v) (v ∷ []) ++ flat_map (remains_of table moment rows) vs))
+        go true e kept others more = rw (began_earlier rows earlier v e) (IsPermutation-cons (closing moment (written_version v)) _ _ more)
+        go false e kept others more = IsPermutation-trans _ _ _ (IsPermutation-middle (map (closing moment) kept) (written_version v) others) (IsPermutation-cons (written_version v) _ _ more)
+
+-- one row as rows that end together
+pub one_ended : (k : Version) (moment : ℤ) (m : Records) → all_ended (k ∷ []) moment m ≡ ended k moment m
+one_ended k moment m = ap (λ p. record m { versions = map (closing moment) (filter p m.versions) ++ filter (λ v. not (p v)) m.versions }) (fun_ext (λ v. or_false (same_key k v)))
 
 -- ---- values stay values
 
@@ -141,33 +163,37 @@ flat_twice g f [] = refl
 flat_twice g f (x ∷ xs) = flat_map-append g (f x) (flat_map f xs) ∙ ap (λ l. flat_map g (f x) ++ l) (flat_twice g f xs)
 
 -- the remains of a version's remains are its remains
-left_again : (table : ℕ) (moment : ℤ) (rows : List VersionRow) (row : VersionRow) (v : TableVersion) (a : Bool) → flat_map (remains_of table moment (row ∷ [])) (cond a (closed_at moment v) (v ∷ [])) ≡ cond (a || same_version (version_in table row) v) (closed_at moment v) (v ∷ [])
-left_again table moment rows row v true = began (is_eq (int_cmp v.from moment)) refl
+left_again : (table : ℕ) (moment : ℤ) (rows : List VersionRow) (v : TableVersion) (a : Bool) → flat_map (remains_of table moment rows) (cond a (closed_at moment v) (v ∷ [])) ≡ cond (a || is_ended table rows v) (closed_at moment v) (v ∷ [])
+left_again table moment rows v true = began (is_eq (int_cmp v.from moment)) refl
   where
-    ends : (b : Bool) → (cond (b || false) (record v { to = moment } ∷ []) (record v { to = moment } ∷ []) ++ []) ≡ record v { to = moment } ∷ []
+    ends : (b : Bool) → (cond b (record v { to = moment } ∷ []) (record v { to = moment } ∷ []) ++ []) ≡ record v { to = moment } ∷ []
     ends true = refl
     ends false = refl
 
-    began : (z : Bool) → is_eq (int_cmp v.from moment) ≡ z → flat_map (remains_of table moment (row ∷ [])) (cond z [] (record v { to = moment } ∷ [])) ≡ cond z [] (record v { to = moment } ∷ [])
+    began : (z : Bool) → is_eq (int_cmp v.from moment) ≡ z → flat_map (remains_of table moment rows) (cond z [] (record v { to = moment } ∷ [])) ≡ cond z [] (record v { to = moment } ∷ [])
     began true e = refl
-    began false e = rw e (ends (same_version (version_in table row) v))
-left_again table moment rows row v false = stays (same_version (version_in table row) v)
+    began false e = rw e (ends (is_ended table rows (record v { to = moment })))
+left_again table moment rows v false = stays (is_ended table rows v)
   where
-    stays : (b : Bool) → (cond (b || false) (closed_at moment v) (v ∷ []) ++ []) ≡ cond b (closed_at moment v) (v ∷ [])
+    stays : (b : Bool) → (cond b (closed_at moment v) (v ∷ []) ++ []) ≡ cond b (closed_at moment v) (v ∷ [])
     stays true = append-nil _
     stays false = refl
+
+-- rows after others
+pub ended_parts : (table : ℕ) (moment : ℤ) (first rest : List VersionRow) (c : Contents) → ended_at table moment rest (ended_at table moment first c) ≡ ended_at table moment (first ++ rest) c
+ended_parts table moment first rest c =
+    ap (λ vs. record c { versions = vs }) (flat_twice (remains_of table moment rest) (remains_of table moment first) c.versions ∙ ap (λ f. flat_map f c.versions) (fun_ext each))
+  where
+    each : (v : TableVersion) → flat_map (remains_of table moment rest) (remains_of table moment first v) ≡ remains_of table moment (first ++ rest) v
+    each v =
+        left_again table moment rest v (is_ended table first v)
+        ∙ ap (λ b. cond b (closed_at moment v) (v ∷ [])) (sym (list_any-append (λ row. same_version (version_in table row) v) first rest))
 
 pub ended_more : (table : ℕ) (moment : ℤ) (rows : List VersionRow) (i : ℕ) (row : VersionRow) → i < length rows → row ≡ get_or rows i row → (c : Contents)
     → ended_at table moment (row ∷ []) (ended_at table moment (take i rows) c) ≡ ended_at table moment (take (i + 1) rows) c
 ended_more table moment rows i row low is c =
-    ap (λ vs. record c { versions = vs }) (flat_twice (remains_of table moment (row ∷ [])) (remains_of table moment (take i rows)) c.versions ∙ ap (λ f. flat_map f c.versions) (fun_ext each))
-  where
-    each : (v : TableVersion) → flat_map (remains_of table moment (row ∷ [])) (remains_of table moment (take i rows) v) ≡ remains_of table moment (take (i + 1) rows) v
-    each v =
-        let more = list_any_more (λ row. same_version (version_in table row) v) rows i row low in
-        let same = ap (λ row. same_version (version_in table row) v) is in
-        left_again table moment rows row v (is_ended table (take i rows) v)
-        ∙ ap (λ b. cond b (closed_at moment v) (v ∷ [])) (ap (λ b. is_ended table (take i rows) v || b) same ∙ sym more)
+    let more : take (i + 1) rows ≡ take i rows ++ row ∷ [] = take_more rows i row low ∙ ap (λ r. take i rows ++ r ∷ []) (sym is) in
+    ended_parts table moment (take i rows) (row ∷ []) c ∙ ap (λ l. ended_at table moment l c) (sym more)
 
 pub added_more : (table : ℕ) (moment : ℤ) (rows : List PeriodRow) (i : ℕ) (row : PeriodRow) → i < length rows → row ≡ get_or rows i row → (c : Contents)
     → added_at table moment (row ∷ []) (added_at table moment (take i rows) c) ≡ added_at table moment (take (i + 1) rows) c

@@ -12,3 +12,4 @@ pub mod RowValues
 pub mod GoodStore
 pub mod Laws
 pub mod Faults
+pub mod Runs

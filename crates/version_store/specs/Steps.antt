@@ -2,7 +2,7 @@
 use Rattle.std.specs.Prelude.{◌≡◌, ◌+◌, ℕ, IfErr, IsTrue, OnOk, Result}
 use Rattle.sqlite.specs.Store.{Ghosts}
 use Rattle.sqlite.specs.State.{HasCleanDisk}
-use Rattle.sqlite.specs.Effect.{Database}
+use Rattle.sqlite.specs.Effect.{Database, IsDatabase}
 use Rattle.sqlite.specs.Held.{Held, state}
 use Rattle.version_tables.specs.Represents.{Records, Represents}
 use Rattle.version_tables.specs.Healthy.{IsHealthy}
@@ -19,11 +19,28 @@ Carries g old new result change =
     → OnOk result (IsTrue new.in_transaction
     × ((c : Contents) → Has (state g old).now c → Has (state g new).now (change c)))
 
+-- so it is if the database obeyed its schema
+abbrev pub CarriesIfSound : {S X E : Type 0} → Ghosts S → Held S → Held S → Result X E
+    → (Contents → Contents) → Type 0
+CarriesIfSound g old new result change =
+    HasCleanDisk (state g new) → IsTrue old.in_transaction
+    → OnOk result (IsTrue new.in_transaction × (IsDatabase (state g old).now
+    → (c : Contents) → Has (state g old).now c → Has (state g new).now (change c)))
+
 -- outside a transaction: on Ok the contents are changed, and that is committed
 abbrev pub Commits : {S X E : Type 0} → Ghosts S → Held S → Held S → Result X E
     → (Contents → Contents) → Type 0
 Commits g old new result change =
     HasCleanDisk (state g new) → (c : Contents) → Has (state g old).now c
+    → OnOk result (Has (state g new).now (change c)
+    × ((state g new).committed ≡ (state g new).now))
+
+-- so they are if the database obeyed its schema
+abbrev pub CommitsIfSound : {S X E : Type 0} → Ghosts S → Held S → Held S → Result X E
+    → (Contents → Contents) → Type 0
+CommitsIfSound g old new result change =
+    HasCleanDisk (state g new) → IsDatabase (state g old).now
+    → (c : Contents) → Has (state g old).now c
     → OnOk result (Has (state g new).now (change c)
     × ((state g new).committed ≡ (state g new).now))
 

@@ -12,6 +12,7 @@ pub mod laws;
 mod plans;
 mod row_checks;
 mod row_values;
+mod runs;
 mod scans;
 mod store;
 mod transactions;

@@ -11,11 +11,13 @@ ghost use Rattle.version_tables.specs.Steps.{ChangesRecords, CommitsNothing, Sta
 ghost use Rattle.version_store.specs.Changed.{CanMake, ended_at, planned};
 ghost use Rattle.version_store.specs.PendingRemovals.{CarriesExcept, IsCausedExcept};
 ghost use Rattle.version_store.specs.PendingRemovals.{StaysHealthyExcept, key_at};
-ghost use Rattle.version_store.specs.Steps.{Carries, ChangeIsCaused, PlanIsCaused};
+ghost use Rattle.version_store.specs.Runs.{CarriesSound};
+ghost use Rattle.version_store.specs.Steps.{CarriesIfSound, ChangeIsCaused, PlanIsCaused};
 ghost use Rattle.version_store.specs.Steps.{PlanStaysHealthy};
 
 use crate::fault::StoreFault;
 use crate::insertion::add_rows;
+use crate::runs::end_runs;
 use crate::written_rows::version_key_of;
 use catalog_core::Plan;
 use period_core::{Moment, VersionRow};
@@ -62,8 +64,8 @@ fn end_row<S: Alter>(
     Ok(())
 }
 
-/// Ends rows of a table at a moment. Those that began then have to be removed.
-fn end_rows<S: Alter>(
+/// Ends rows of a table at a moment, one after another. Those that began then have to be removed.
+fn end_each<S: Alter>(
     alloc: Global,
     transaction: &mut Transaction<'_, S>,
     table: u8,
@@ -87,6 +89,32 @@ fn end_rows<S: Alter>(
         end_row(alloc, transaction, table, moment, row, pending)?;
     }
     Ok(())
+}
+
+/// Ends rows of a table at a moment, the first of them together if they are stored together. Those
+/// that began then have to be removed.
+fn end_rows<S: Alter>(
+    alloc: Global,
+    transaction: &mut Transaction<'_, S>,
+    table: u8,
+    moment: Moment,
+    rows: &[VersionRow],
+    pending: &mut BTreeSet<VersionKey>,
+) -> Result<(), StoreFault>
+    ensures same_reference { transaction.new.conn.ghost_name ≡ transaction.old.conn.ghost_name }
+    ensures made { CarriesSound S.Store transaction.old.conn.now transaction.new.conn.now result
+        table moment pending.old.keys pending.new.keys (ended_at table moment rows.now) }
+    ensures others { OnOk result
+        (LeavesOthers S.Store transaction.old.conn.now transaction.new.conn.now) }
+    ensures inside { CommitsNothing S.Store transaction.old.conn.now transaction.new.conn.now }
+    ensures why { IsCausedExcept S.Store transaction.old.conn.now transaction.new.conn.now result
+        table moment pending.old.keys 0
+        (λ _. AllByRecursion (λ row. IsShort (encoded row.values)) rows.now) }
+    ensures healthy { StaysHealthyExcept S.Store transaction.old.conn.now
+        transaction.new.conn.now result table moment pending.old.keys 0 }
+{
+    let done = end_runs(alloc, transaction, table, moment, rows)?;
+    end_each(alloc, transaction, table, moment, &rows[done..], pending)
 }
 
 /// Removes the version of a table that began at the moment and has this key, if there is one.
@@ -150,7 +178,7 @@ pub(crate) fn put_plan<S: Alter>(
     plan: &Plan,
 ) -> Result<(), StoreFault>
     ensures same_reference { transaction.new.conn.ghost_name ≡ transaction.old.conn.ghost_name }
-    ensures made { Carries S.Store transaction.old.conn.now transaction.new.conn.now result
+    ensures made { CarriesIfSound S.Store transaction.old.conn.now transaction.new.conn.now result
         (planned table moment plan.now.ended plan.now.added) }
     ensures others { OnOk result
         (LeavesOthers S.Store transaction.old.conn.now transaction.new.conn.now) }

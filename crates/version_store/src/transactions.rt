@@ -7,6 +7,7 @@ ghost use Rattle.version_tables.specs.Represents.{with_definition};
 ghost use Rattle.version_store.specs.Changed.{CanMake, planned, with_clock};
 ghost use Rattle.version_store.specs.StoreState.{IsUsable, StaysOnErr};
 ghost use Rattle.version_store.specs.Steps.{Carries, ChangeIsCaused, CommitIsCaused, Commits};
+ghost use Rattle.version_store.specs.Steps.{CommitsIfSound};
 ghost use Rattle.version_store.specs.Steps.{CommitOfIsCaused, CommitsHealthy};
 ghost use Rattle.version_store.specs.Steps.{CommitsHealthyWhere, CommitsWhere};
 ghost use Rattle.version_tables.specs.Healthy.{AreShort, IsShort};
@@ -30,7 +31,7 @@ pub(crate) fn write_plan<S: Alter>(
     plan: &Plan,
 ) -> Result<(), StoreFault>
     requires { connection.old.in_transaction ≡ false }
-    ensures made { Commits S.Store connection.old connection.new result
+    ensures made { CommitsIfSound S.Store connection.old connection.new result
         (planned table moment plan.now.ended plan.now.added) }
     ensures others { OnOk result (LeavesOthers S.Store connection.old connection.new) }
     ensures none { StaysOnErr S.Store connection.old connection.new result }

@@ -36,7 +36,7 @@ use Rattle.version_tables.proofs.Clashes.{own_of}
 use Rattle.version_tables.proofs.Reasons.{IsOne, NeverOverflows, none_of}
 use Rattle.version_tables.proofs.Texts.{microseconds_columns, microseconds_is, updating}
 use Rattle.version_tables.proofs.Rows.{cast_int}
-use Rattle.version_tables.proofs.Updates.{changes, updating_fails, updating_healthy}
+use Rattle.version_tables.proofs.Updates.{tested_all, changes, updating_fails, updating_healthy}
 
 -- ---- one moment
 
@@ -105,7 +105,7 @@ moves_versions_inside old new (Err e) h = tt
 moves_versions_inside old new (Ok count) h = (
   h.1.mode,
   λ m seconds was.
-      let made = changes microseconds_text [] microseconds_columns (Int last_second ∷ Int forever ∷ []) (λ _. true) (λ _. true) HasSeconds moved_version with_moments microseconds_is (λ r. refl) (λ v. refl) (λ r. refl) with_moments-stored old new count m seconds was h.0 in
+      let made = changes microseconds_text [] microseconds_columns (Int last_second ∷ Int forever ∷ []) (λ _. true) (λ _. true) HasSeconds moved_version with_moments microseconds_is (λ v. refl) (λ r. refl) with_moments-stored old new count m (tested_all [] (Int last_second ∷ Int forever ∷ []) (λ _. true) (λ r. refl) _) seconds was h.0 in
       subst (λ (vs : List Version). Represents new.now (record m { versions = vs })) (all_moved m.versions) made.0,
 )
 
@@ -155,9 +155,9 @@ module _ (old : State) (m : Records) (was : Represents old.now m) (count : ℕ) 
 
   pub versions_fail : HaveSeconds m → AreShort m.versions → (new : State) (e : Error) → ExecutesInside 0 microseconds_text ends_given old new (Err e) → HasReason old new e
   versions_fail seconds short =
-      updating_fails microseconds_text [] microseconds_columns ends_given (λ _. true) with_moments microseconds_one microseconds_is (λ r. refl) (λ r. refl) old m was count healthy
+      updating_fails microseconds_text [] microseconds_columns ends_given (λ _. true) with_moments microseconds_one microseconds_is (λ r. refl) old (tested_all [] ends_given (λ _. true) (λ r. refl) _) m was count healthy
       (λ _. true) (λ v. HasSeconds v × IsShort v.values) moved_version (λ v. refl) (λ r. refl) (λ v is. with_moments-stored v is.0) (λ others. refl) (never_moves ends_given)
       (all_both HasSeconds (λ v. IsShort v.values) (λ v. HasSeconds v × IsShort v.values) (λ v is few. (is, few)) m.versions seconds short) (λ r v is taken shows. is.1) (subst HaveOwnKeys (sym (all_moved m.versions)) (own_moved m.versions (own_of old.now m was healthy.sound)))
 
   pub versions_healthy : (new : State) (n : ℕ) → Executes microseconds_text ends_given old new (Ok n) → IsHealthy count new.now
-  versions_healthy = updating_healthy microseconds_text [] microseconds_columns ends_given (λ _. true) with_moments microseconds_one microseconds_is (λ r. refl) (λ r. refl) old m was count healthy
+  versions_healthy = updating_healthy microseconds_text [] microseconds_columns ends_given (λ _. true) with_moments microseconds_one microseconds_is (λ r. refl) old (tested_all [] ends_given (λ _. true) (λ r. refl) _) m was count healthy

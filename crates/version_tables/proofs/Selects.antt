@@ -1,19 +1,19 @@
 -- A query changes nothing, whatever the schema: a SELECT returns nothing of a write.
-use Rattle.std.proofs.Common.{◌≡◌, ◌⊎◌, inl, inr, ℕ, List, None, Ok, Err, Result, refl, sym, ap, subst, ◌∙◌, IsTrue}
+use Rattle.std.proofs.Common.{◌≡◌, ◌⊎◌, inl, inr, ℕ, List, None, Ok, Err, Result, refl, sym, ap, subst, ◌∙◌, IsTrue, true≢false}
 use Rattle.std.specs.Prelude.{OnOk, IfOk, IfErr, Vec}
 use Rattle.std.specs.declared.alloc.Global.{Global}
 use Rattle.std.proofs.lemmas.Bool.{cases_Bool}
 use Rattle.sqlite.specs.Order.{Row}
 use Rattle.sqlite.specs.Schema.{Schema}
 use Rattle.sqlite.specs.Listing.{understood, reads_listing, if_select, is_select, listing_schema}
-use Rattle.sqlite.specs.State.{State, Shown, IsUnchanged, IsRolledBack, FailsToQuery, IsNotRun}
+use Rattle.sqlite.specs.State.{State, Shown, IsTooLate, IsUnchanged, IsRolledBack, FailsToQuery, IsNotRun, KeepsCommit}
 use Rattle.sqlite.specs.declared.error.Error.{Error}
 use Rattle.sqlite_resolve.specs.Compile.{first, returning, command, planned, meaning, compiled, with_command}
 use Rattle.sqlite_resolve.specs.Lowering.{Checked, and_then}
 use Rattle.sqlite_resolve.specs.declared.compiled.Compiled.{Compiled}
 use Rattle.sqlite_syntax.specs.declared.statement.Parsed.{Parsed}
 use Rattle.sqlite_tied.specs.Compute.{everything}
-use Rattle.version_tables.specs.Texts.{whole_text, ending_text, overlapping_text, meta_rows_text, table_rows_text, version_rows_text, rowids_text}
+use Rattle.version_tables.specs.Texts.{whole_text, ending_text, overlapping_text, meta_rows_text, table_rows_text, version_rows_text, rowids_text, run_keys_text, number_text}
 use Rattle.version_tables.specs.Selections.{select_text}
 use Rattle.version_tables.specs.declared.selection.Selection.{Selection}
 use Rattle.version_tables.specs.declared.selection.Selection.TheVariants.{Whole, EndingAt, Overlapping}
@@ -61,6 +61,14 @@ pub rowid_reads : IsQueryText rowids_text
 unfolding first everything
 rowid_reads schema base = refl
 
+pub run_reads : IsQueryText run_keys_text
+unfolding first everything
+run_reads schema base = refl
+
+pub number_reads : IsQueryText number_text
+unfolding first everything
+number_reads schema base = refl
+
 -- ---- so nothing that is compiled of it has
 
 pub through : {A B : Type 0} (r : Checked A) (f : A → Checked B) (b : B) → and_then r f ≡ Ok b → (a : A) × (r ≡ Ok a) × (f a ≡ Ok b)
@@ -105,7 +113,7 @@ understood_none schema sql reads c is = elim (cases_Bool (reads_listing schema s
 -- ---- a query that runs changes nothing, and one that fails leaves what was committed
 
 module _ (sql : List ℕ) (reads : IsQueryText sql) (params : Row) (old new : State) where
-  unchanged_by : (rows : List Row) → Shown sql params old new rows → IsUnchanged old new
+  pub unchanged_by : (rows : List Row) → Shown sql params old new rows → IsUnchanged old new
   unfolding Shown
   unchanged_by rows h = (rw (understood_none old.now.schema sql reads h.0 h.1.is) at h.2).3
 
@@ -133,3 +141,21 @@ module _ (sql : List ℕ) (reads : IsQueryText sql) (params : Row) (old new : St
   pub query_keeps : (IsTrue old.is_open → old.now ≡ old.committed) → (r : Result (Vec Row Global) Error) → IfOk r (λ rows. Shown sql params old new rows.items) → IfErr r (FailsToQuery sql params old new) → Keeps old new
   query_keeps settled (Ok rows) ok err = keeps_by settled (inl (unchanged_by rows.items ok))
   query_keeps settled (Err e) ok err = keeps_by settled (fails_by e err)
+
+  -- ---- inside a transaction
+
+  not_late : (e : Error) → IsTooLate sql params old new e → ⊥
+  not_late e h = let none = understood_none old.now.schema sql reads h.0 h.1.is in true≢false (sym (rw none at h.2))
+
+  pub in_time : (r : Result (Vec Row Global) Error) → IfErr r (λ e. FailsToQuery sql params old new e ⊎ IsTooLate sql params old new e) → IfErr r (FailsToQuery sql params old new)
+  in_time (Ok rows) err = tt
+  in_time (Err e) (inl failed) = failed
+  in_time (Err e) (inr late) = absurd (not_late e late)
+
+  commit_kept : IsUnchanged old new ⊎ IsRolledBack old new → KeepsCommit old new
+  commit_kept (inl same) = record { was_open = λ _. same.0.was_open; committed = λ _. same.0.committed_is }
+  commit_kept (inr undone) = record { was_open = undone.was_open; committed = λ on. (undone.undone on).1 }
+
+  pub query_commits_nothing : (r : Result (Vec Row Global) Error) → IfOk r (λ rows. Shown sql params old new rows.items) → IfErr r (λ e. FailsToQuery sql params old new e ⊎ IsTooLate sql params old new e) → KeepsCommit old new
+  query_commits_nothing (Ok rows) ok err = commit_kept (inl (unchanged_by rows.items ok))
+  query_commits_nothing (Err e) ok err = commit_kept (fails_by e (in_time (Err e) err))

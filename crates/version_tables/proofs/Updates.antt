@@ -10,7 +10,7 @@ use Rattle.std.proofs.lemmas.List.{map-append, length-map}
 use Rattle.std.proofs.lemmas.List.Sorted.{IsPermutation-refl, IsPermutation-trans, IsPermutation-map, IsPermutation-middle, IsPermutation-append, IsPermutation-append_right, IsPermutation-sym, length_permutation}
 use Rattle.sqlite_trees.specs.View.{is_int}
 use Rattle.sqlite_trees.proofs.TreeLemmas.{all-put_row}
-use Rattle.sqlite_trees.proofs.ListLemmas.{filter-map, IsPermutation-filter, all-filter, ascending-filter}
+use Rattle.sqlite_trees.proofs.ListLemmas.{filter-map, filter_same, IsPermutation-filter, all-filter, ascending-filter}
 use Rattle.sqlite.specs.declared.types.Value.TheVariants.{Null, Int, Blob}
 use Rattle.sqlite.specs.Order.{Row}
 use Rattle.sqlite.specs.Term.{holds}
@@ -51,7 +51,7 @@ use Rattle.version_tables.specs.Healthy.{HasNoIndexOfOthers, HaveOwnKeys, HaveRo
 use Rattle.version_tables.specs.Steps.{HasReason}
 use Rattle.version_tables.specs.Tables.{IsApart}
 use Rattle.version_tables.proofs.Allowed.{others_same, refers_kept, version_allowed, version_edit, version_sized}
-use Rattle.version_tables.proofs.Clashes.{rows_apart, same_key-turned, unique_kept, with_same}
+use Rattle.version_tables.proofs.Clashes.{each, rows_apart, same_key-turned, unique_kept, with_same}
 use Rattle.version_tables.proofs.OwnKeys.{key_parts, own_along}
 use Rattle.version_tables.proofs.PutBack.{fresh_back, keyed_back, own_back, room_back, rows_show, split}
 use Rattle.version_tables.proofs.Reasons.{IsOne, NeverOverflows}
@@ -95,6 +95,13 @@ put_keyed (r ∷ rs) rows ints all = let parts = and_parts _ _ ints in put_keyed
 abbrev pub again : Row → Row
 again s = cast_row (version_table 2) (drop 1 s)
 
+-- the tests say of these rows what `test` says of the versions that they show
+abbrev pub AreTested : List Term → Row → (Row → Bool) → List Row → Type 0
+AreTested tests params test = AllByRecursion (λ r. list_all (holds (params ∷ r ∷ [])) tests ≡ test (version_shown r))
+
+pub tested_all : (tests : List Term) (params : Row) (test : Row → Bool) → ((r : Row) → list_all (holds (params ∷ r ∷ [])) tests ≡ test (version_shown r)) → (rows : List Row) → AreTested tests params test rows
+tested_all tests params test is = each (λ r. list_all (holds (params ∷ r ∷ [])) tests ≡ test (version_shown r)) is
+
 has_key-row : (k : Version) (more r : Row) → list_all (holds (key_and k more ∷ r ∷ [])) by_key ≡ has_key k (version_shown r)
 unfolding has_key
 has_key-row k more r = refl
@@ -118,7 +125,7 @@ fused f g [] = refl
 fused f g (x ∷ xs) = ap (λ l. f (g x) ∷ l) (fused f g xs)
 
 -- the rows of which the tests are true, as the query gives them
-module _ (tests columns : List Term) (params : Row) (test : Row → Bool) (test_is : (r : Row) → list_all (holds (params ∷ r ∷ [])) tests ≡ test (version_shown r)) (db : Database) (m : Records) (was : Represents db m)
+module _ (tests columns : List Term) (params : Row) (test : Row → Bool) (db : Database) (test_is : AreTested tests params test (db.trees 2)) (m : Records) (was : Represents db m)
     (found : List Row) (a : IsAnswer (updating tests columns) (overlay db.trees []) params found) where
   abbrev update_query : Query
   update_query = updating tests columns
@@ -129,8 +136,11 @@ module _ (tests columns : List Term) (params : Row) (test : Row → Bool) (test_
   abbrev pub tested : Row → Bool
   tested r = list_all (holds (params ∷ r ∷ [])) tests
 
-  tests_are : tested ≡ (λ r. test (version_shown r))
-  tests_are = fun_ext test_is
+  tests_are : filter tested olds ≡ filter (λ r. test (version_shown r)) olds
+  tests_are = filter_same _ _ olds test_is
+
+  spared_are : filter (λ r. not (tested r)) olds ≡ filter (λ r. not (test (version_shown r))) olds
+  spared_are = filter_same _ _ olds (all_weaker (λ r. tested r ≡ test (version_shown r)) (λ r. not (tested r) ≡ not (test (version_shown r))) (λ r is. ap not is) olds test_is)
 
   kept : a.kept ≡ map (output update_query) (map (λ r. params ∷ r ∷ []) (filter tested olds))
   kept = a.distinct ∙ ap (map (output update_query)) (a.grouped ∙ chosen tested (λ r. params ∷ r ∷ []) olds)
@@ -139,12 +149,12 @@ module _ (tests columns : List Term) (params : Row) (test : Row → Bool) (test_
   these = subst₂ IsPermutation (ap (λ l. ids_of (map (λ (o : Output). o.1) l)) kept ∙ ids tests columns params (filter tested olds)) (ap ids_of (sym a.shown)) (IsPermutation-map rid _ _ (IsPermutation-map (λ (o : Output). o.1) _ _ a.same))
 
   pub left : without_all olds (ids_of found) ≡ filter (λ r. not (test (version_shown r))) olds
-  left = taken_out tested olds (ids_of found) was.untied was.keyed these ∙ ap (λ q. filter (λ r. not (q r)) olds) tests_are
+  left = taken_out tested olds (ids_of found) was.untied was.keyed these ∙ spared_are
 
   -- the rows that are put back, by those that were taken out
   pub put_back : (g : Row → Row) → ((r : Row) → again (output update_query (params ∷ r ∷ [])).1 ≡ g r) → IsPermutation (map g (filter (λ r. test (version_shown r)) olds)) (map again found)
   put_back g whole =
-      subst (λ p. IsPermutation (map g (filter p olds)) (map again found)) tests_are
+      subst (λ l. IsPermutation (map g l) (map again found)) tests_are
       (subst₂ IsPermutation (ap (λ l. map again (map (λ (o : Output). o.1) l)) kept ∙ each_back (filter tested olds)) (ap (map again) (sym a.shown)) (IsPermutation-map again _ _ (IsPermutation-map (λ (o : Output). o.1) _ _ a.same)))
     where
       each_back : (rs : List Row) → map again (map (λ (o : Output). o.1) (map (output update_query) (map (λ r. params ∷ r ∷ []) rs))) ≡ map g rs
@@ -167,7 +177,7 @@ module _ (tests columns : List Term) (params : Row) (test : Row → Bool) (test_
         (ap (map (λ s. version_shown (again s))) (sym a.shown) ∙ sym (fused version_shown again found))
         (IsPermutation-trans _ _ _ (IsPermutation-map body _ _ (IsPermutation-filter test _ _ was.says.versions))
         (subst (λ l. IsPermutation l (map (λ s. version_shown (again s)) (map (λ (o : Output). o.1) a.ordered)))
-        (ap (λ l. map (λ s. version_shown (again s)) (map (λ (o : Output). o.1) l)) kept ∙ bodies tests columns params body body_is (filter tested olds) ∙ ap (λ t. map body (map version_shown (filter t olds))) tests_are ∙ ap (map body) (sym (filter-map test version_shown olds)))
+        (ap (λ l. map (λ s. version_shown (again s)) (map (λ (o : Output). o.1) l)) kept ∙ bodies tests columns params body body_is (filter tested olds) ∙ ap (λ l. map body (map version_shown l)) tests_are ∙ ap (map body) (sym (filter-map test version_shown olds)))
         (IsPermutation-map (λ s. version_shown (again s)) _ _ (IsPermutation-map (λ (o : Output). o.1) _ _ a.same))))
 
     pub rest : IsPermutation (map stored (filter (λ v. not (picks v)) m.versions)) (map version_shown (without_all olds (ids_of found)))
@@ -185,13 +195,12 @@ module _ (tests columns : List Term) (params : Row) (test : Row → Bool) (test_
 -- the rows of which the tests are true are changed, and counted; of the versions P holds
 module _ (text : List ℕ) (tests columns : List Term) (params : Row) (picks : Version → Bool) (test : Row → Bool) (P : Version → Type 0) (f : Version → Version) (body : Row → Row)
     (is : (others : Others) → (command_of (understood (schema_with others) text) ≡ Update 2 (record { lets = []; body = updating tests columns })) × IsPlain (understood (schema_with others) text))
-    (test_is : (r : Row) → list_all (holds (params ∷ r ∷ [])) tests ≡ test (version_shown r))
     (test-stored : (v : Version) → test (stored v) ≡ picks v)
     (body_is : (r : Row) → version_shown (again (output (updating tests columns) (params ∷ r ∷ [])).1) ≡ body (version_shown r))
     (body-stored : (v : Version) → P v → body (stored v) ≡ stored (f v)) where
-  pub changes : (old new : State) (count : ℕ) (m : Records) → AllByRecursion P m.versions → Represents old.now m → Executes text params old new (Ok count)
+  pub changes : (old new : State) (count : ℕ) (m : Records) → AreTested tests params test (old.now.trees 2) → AllByRecursion P m.versions → Represents old.now m → Executes text params old new (Ok count)
       → Represents new.now (record m { versions = map f (filter picks m.versions) ++ filter (λ v. not (picks v)) m.versions }) × (count ≡ length (filter picks m.versions))
-  changes old new count m are was h =
+  changes old new count m test_is are was h =
       let others = was.schema.others in
       let has = was.schema.schema_is in
       let db = old.now.trees in
@@ -211,10 +220,10 @@ module _ (text : List ℕ) (tests columns : List Term) (params : Row) (picks : V
       let put : new.now.trees 2 ≡ put_all (without_all (db 2) (ids_of found.0)) (map again found.0) = after 2 ∙ applied.rows ∙ ap (put_all (without_all (db 2) (ids_of found.0))) news in
       let fresh : are_fresh (without_all (db 2) (ids_of found.0)) (map again found.0) ≡ true = rw news at applied.fresh in
       let keyed = rw news at applied.keyed in
-      let stays = left tests columns params test test_is old.now m was found.0 a in
+      let stays = left tests columns params test old.now test_is m was found.0 a in
       let answered : count ≡ length edit.news =
       w.counted ∙ ap (λ (n : Tally × Database). unwrap_or n.0.rows 0) (same_value (went (went done.2).2).2) ∙ ap (λ (it : Written). length it.rows) (same_value written.2) in
-      let goes = gone tests columns params test test_is old.now m was found.0 a picks P f body test-stored body_is body-stored are in
+      let goes = gone tests columns params test old.now test_is m was found.0 a picks P f body test-stored body_is body-stored are in
       let all : length (map again found.0) ≡ length (filter picks m.versions) =
       sym (length-map (map again found.0) version_shown) ∙ length_permutation _ _ goes ∙ length-map _ stored ∙ length-map _ f in (
         record {
@@ -222,7 +231,7 @@ module _ (text : List ℕ) (tests columns : List Term) (params : Row) (picks : V
           says = record {
             meta = ap (map meta_shown) (after 0 ∙ applied.tables.0 (λ e. absurd (omega (arith, e)))) ∙ was.says.meta;
             tables = subst (λ rows. IsPermutation (defined 1 m.tables) (map table_shown rows)) (sym (after 1 ∙ applied.tables.1.0 (λ e. absurd (omega (arith, e))))) was.says.tables;
-            versions = rw put (put_shows tests columns params test test_is old.now m was found.0 a picks P f body test-stored body_is body-stored are fresh);
+            versions = rw put (put_shows tests columns params test old.now test_is m was found.0 a picks P f body test-stored body_is body-stored are fresh);
           };
           untied = rw put (put_table (map again found.0) _ fresh (rw stays (ascending-filter _ _ (db 2) was.untied)));
           keyed = rw put (put_keyed (map again found.0) _ keyed (rw stays (all-filter _ _ (db 2) was.keyed)));
@@ -230,7 +239,7 @@ module _ (text : List ℕ) (tests columns : List Term) (params : Row) (picks : V
         answered ∙ ap length news ∙ all,
       )
 
-everywhere : (P : Version → Type 0) → ((v : Version) → P v) → (vs : List Version) → AllByRecursion P vs
+pub everywhere : (P : Version → Type 0) → ((v : Version) → P v) → (vs : List Version) → AllByRecursion P vs
 everywhere P holds [] = tt
 everywhere P holds (v ∷ vs) = (holds v, everywhere P holds vs)
 
@@ -241,8 +250,8 @@ module _ (text : List ℕ) (columns : List Term) (k : Version) (more : Row) (f :
     (body-stored : (v : Version) → body (stored v) ≡ stored (f v)) where
   pub updates : (old new : State) (count : ℕ) (m : Records) → Represents old.now m → Executes text (key_and k more) old new (Ok count) → Represents new.now (changed k f m) × (count ≡ length (filter (same_key k) m.versions))
   updates old new count m was h =
-      changes text by_key columns (key_and k more) (same_key k) (has_key k) (λ _. Unit {0}) f body is (has_key-row k more) (has_key-stored k) body_is (λ v _. body-stored v)
-      old new count m (everywhere (λ _. Unit {0}) (λ _. tt) m.versions) was h
+      changes text by_key columns (key_and k more) (same_key k) (has_key k) (λ _. Unit {0}) f body is (has_key-stored k) body_is (λ v _. body-stored v)
+      old new count m (tested_all by_key (key_and k more) (has_key k) (has_key-row k more) _) (everywhere (λ _. Unit {0}) (λ _. tt) m.versions) was h
 
 -- ---- keys of versions of which other columns are changed
 
@@ -250,7 +259,7 @@ mapped_apart : (f : Version → Version) → ((a b : Version) → same_key (f a)
 mapped_apart f same x [] ys apart = all_weaker (λ w. same_key x w ≡ false) (λ w. same_key (f x) w ≡ false) (λ w other. same x w ∙ other) ys apart
 mapped_apart f same x (y ∷ xs) ys apart = (same x (f y) ∙ same_key-turned x (f y) ∙ same y x ∙ same_key-turned y x ∙ apart.0, mapped_apart f same x xs ys apart.1)
 
-own_mapped : (f : Version → Version) → ((a b : Version) → same_key (f a) b ≡ same_key a b) → (xs ys : List Version) → HaveOwnKeys (xs ++ ys) → HaveOwnKeys (map f xs ++ ys)
+pub own_mapped : (f : Version → Version) → ((a b : Version) → same_key (f a) b ≡ same_key a b) → (xs ys : List Version) → HaveOwnKeys (xs ++ ys) → HaveOwnKeys (map f xs ++ ys)
 own_mapped f same [] ys own = own
 own_mapped f same (x ∷ xs) ys own = (mapped_apart f same x xs ys own.0, own_mapped f same xs ys own.1)
 
@@ -262,9 +271,8 @@ own_changed k f same m own = own_mapped f same (filter (same_key k) m.versions) 
 module _ (text : List ℕ) (tests columns : List Term) (params : Row) (test : Row → Bool) (body : Row → Row)
     (one : (others : Others) → IsOne text (length params) (understood (schema_with others) text))
     (is : (others : Others) → (command_of (understood (schema_with others) text) ≡ Update 2 (record { lets = []; body = updating tests columns })) × IsPlain (understood (schema_with others) text))
-    (test_is : (r : Row) → list_all (holds (params ∷ r ∷ [])) tests ≡ test (version_shown r))
     (whole : (r : Row) → again (output (updating tests columns) (params ∷ r ∷ [])).1 ≡ cast Integer (column r 0) ∷ body (version_shown r))
-    (old : State) (m : Records) (was : Represents old.now m) (count : ℕ) (healthy : IsHealthy count old.now) where
+    (old : State) (test_is : AreTested tests params test (old.now.trees 2)) (m : Records) (was : Represents old.now m) (count : ℕ) (healthy : IsHealthy count old.now) where
   abbrev other_tables : Others
   other_tables = was.schema.others
 
@@ -294,10 +302,10 @@ module _ (text : List ℕ) (tests columns : List Term) (params : Row) (test : Ro
     spared = without_all (db 2) (ids_of rows)
 
     spared_is : spared ≡ filter (λ r. not (taken r)) (db 2)
-    spared_is = left tests columns params test test_is old.now m was rows a
+    spared_is = left tests columns params test old.now test_is m was rows a
 
     back : IsPermutation (map (λ r. cast Integer (column r 0) ∷ body (version_shown r)) (filter taken (db 2))) (map again rows)
-    back = put_back tests columns params test test_is old.now m was rows a (λ r. cast Integer (column r 0) ∷ body (version_shown r)) whole
+    back = put_back tests columns params test old.now test_is m was rows a (λ r. cast Integer (column r 0) ∷ body (version_shown r)) whole
 
     fresh : are_fresh spared (map again rows) ≡ true
     fresh = fresh_back (db 2) was.untied was.keyed taken body (map again rows) spared back spared_is
@@ -313,7 +321,7 @@ module _ (text : List ℕ) (tests columns : List Term) (params : Row) (test : Ro
         let kept = spared rows a in
         let fits = fresh rows a in
         let own_rows = own_back (db 2) was.untied was.keyed taken body news kept (back rows a) (spared_is rows a) P f body-stored count healthy.room (rows_show P old.now m are was) short in
-        let shown = put_shows tests columns params test test_is old.now m was rows a picks P f body test-stored body_is body-stored are fits in
+        let shown = put_shows tests columns params test old.now test_is m was rows a picks P f body test-stored body_is body-stored are fits in
         let after = put_all kept news in
         let keyed = keyed_back (db 2) was.untied was.keyed taken body news kept (back rows a) (spared_is rows a) in
         let unique = unique_kept other_tables bare db (with_tree db 2 after) (with_same db 2 low after other_tables.tables apart) (obeys.rules Unique) (rows_apart after (map f (filter picks m.versions) ++ filter (λ v. not (picks v)) m.versions) keyed shown own) in
@@ -376,8 +384,8 @@ module _ (text : List ℕ) (columns : List Term) (k : Version) (more : Row) (f :
     (old : State) (m : Records) (was : Represents old.now m) (count : ℕ) (healthy : IsHealthy count old.now) where
   pub changing_fails : IsShort k.values → HaveOwnKeys m.versions → (new : State) (e : Error) → ExecutesInside 0 text (key_and k more) old new (Err e) → HasReason old new e
   changing_fails short own =
-      updating_fails text by_key columns (key_and k more) (has_key k) body one is (has_key-row k more) whole old m was count healthy (same_key k) (λ _. Unit {0}) f (has_key-stored k) body_is (λ v _. body-stored v) typed never (everywhere (λ _. Unit {0}) (λ _. tt) m.versions)
+      updating_fails text by_key columns (key_and k more) (has_key k) body one is whole old (tested_all by_key (key_and k more) (has_key k) (has_key-row k more) _) m was count healthy (same_key k) (λ _. Unit {0}) f (has_key-stored k) body_is (λ v _. body-stored v) typed never (everywhere (λ _. Unit {0}) (λ _. tt) m.versions)
       (λ r v _ taken shows. subst IsShort (sym (values_kept v ∙ (key_parts k v (sym (has_key-stored k v) ∙ ap (has_key k) (sym shows) ∙ taken)).1)) short) (own_changed k f same m own)
 
   pub changing_healthy : (new : State) (n : ℕ) → Executes text (key_and k more) old new (Ok n) → IsHealthy count new.now
-  changing_healthy = updating_healthy text by_key columns (key_and k more) (has_key k) body one is (has_key-row k more) whole old m was count healthy
+  changing_healthy = updating_healthy text by_key columns (key_and k more) (has_key k) body one is whole old (tested_all by_key (key_and k more) (has_key k) (has_key-row k more) _) m was count healthy

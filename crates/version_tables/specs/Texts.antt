@@ -37,6 +37,10 @@ abbrev pub update_text : List ℕ
 update_text =
     codes "UPDATE bt_version SET se = ?5 WHERE tab = ?1 AND vals = ?2 AND s = ?3 AND ss = ?4"
 
+-- the system time of the versions with the numbers from ?1 to ?2 ends at ?3
+abbrev pub end_run_text : List ℕ
+end_run_text = codes "UPDATE bt_version SET se = ?3 WHERE rowid >= ?1 AND rowid <= ?2"
+
 -- a version gets another end, ?5, and another end of its system time, ?6
 abbrev pub move_text : List ℕ
 move_text =
@@ -122,6 +126,17 @@ abbrev pub overlapping_text : List ℕ
 overlapping_text =
     codes "SELECT vals, s, e, ss, se FROM bt_version WHERE tab = ?1 AND ss < ?3 AND ?2 < se "
     ++ codes "ORDER BY vals, s, ss"
+
+-- the number of a version, by its key
+abbrev pub number_text : List ℕ
+number_text =
+    codes "SELECT rowid FROM bt_version WHERE tab = ?1 AND vals = ?2 AND s = ?3 AND ss = ?4"
+
+-- the keys of the versions with the numbers from ?1 to ?2, in the order of these
+abbrev pub run_keys_text : List ℕ
+run_keys_text =
+    codes "SELECT tab, vals, s, ss FROM bt_version WHERE rowid >= ?1 AND rowid <= ?2 "
+    ++ codes "ORDER BY rowid"
 
 -- all rows of bt_meta
 abbrev pub meta_rows_text : List ℕ

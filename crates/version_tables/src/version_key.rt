@@ -14,3 +14,11 @@ pub struct NewRow {
     pub key: VersionKey,
     pub end: i64,
 }
+
+/// The key of a version: that which it has at the moment at which its system time begins, and this
+/// moment.
+#[derive(Debug, Drop)]
+pub struct RecordedKey {
+    pub key: VersionKey,
+    pub from: i64,
+}

@@ -31,9 +31,9 @@ returns-clause-made g k clean begun =
     on_ok k.remove_rows.result
     (λ made. (
       made.0,
-      λ c has.
+      λ sound c has.
           let first = subst (λ (l : List VersionKey). HasExcept old table moment l c) (sym k.new-pending.ensures.empty) (begins old table moment c has) in
-          subst₂ (λ (a : List VersionRow) (b : List PeriodRow). Has new (planned table moment a b c)) k.as_slice.ensures k.as_slice-2.ensures (settles new table moment _ (made.1 _ (added.1 _ (ended.1 c first)))),
+          subst₂ (λ (a : List VersionRow) (b : List PeriodRow). Has new (planned table moment a b c)) k.as_slice.ensures k.as_slice-2.ensures (settles new table moment _ (made.1 _ (added.1 _ (ended.1 sound c first)))),
     ))
     (k.remove_rows.ensures.made clean added.0)
 
@@ -65,7 +65,7 @@ returns-in_err-add_rows-clause-why g k clean begun healthy c has can =
     let sound = k.in_ok-end_rows.ensures.healthy clean_mid begun (length k.as_slice-2.result.now) (healthy_none _ old many) c first in
     let short = subst (AllByRecursion (λ (r : PeriodRow). IsShort (encoded r.values))) (sym k.as_slice-2.ensures) can.added_short in
     let distinct = subst₂ (λ (a : List VersionRow) (b : List PeriodRow). HaveDistinctKeys (planned table moment a b c).versions) (sym k.as_slice.ensures) (sym k.as_slice-2.ensures) can.distinct in
-    let why = k.in_err-add_rows.ensures.why clean ended.0 sound _ (ended.1 c first) (short, distinct) in
+    let why = k.in_err-add_rows.ensures.why clean ended.0 sound _ (ended.1 healthy.sound c first) (short, distinct) in
     let p = err_from_is_err_and k.from_residual-in_err-add_rows.result k.from_residual-in_err-add_rows.ensures.1 in
     rw (p.1, p.2) (caused_then (state g.S.Store k.args.transaction.now.conn.now) (state g.S.Store k.end_rows.new.transaction.conn.now) (state g.S.Store k.add_rows.new.transaction.conn.now) clean_mid k.end_rows.ensures.inside.survives k.add_rows.ensures.inside.survives _ why)
 
@@ -83,10 +83,10 @@ returns-clause-why g k clean begun healthy c has can =
     let many = subst (λ (n : ℕ). IsHealthy n old) (sym size) healthy in
     let sound1 = k.in_ok-end_rows.ensures.healthy clean1 begun (length k.as_slice-2.result.now) (healthy_none _ old many) c first in
     let zero : length k.as_slice-2.result.now ≡ length k.as_slice-2.result.now + 0 = omega arith in
-    let sound2 = k.in_ok-add_rows.ensures.healthy clean2 ended.0 0 (subst (λ (n : ℕ). IsHealthy n (state g.S.Store k.end_rows.new.transaction.conn.now).now) zero sound1) _ (ended.1 c first) in
+    let sound2 = k.in_ok-add_rows.ensures.healthy clean2 ended.0 0 (subst (λ (n : ℕ). IsHealthy n (state g.S.Store k.end_rows.new.transaction.conn.now).now) zero sound1) _ (ended.1 healthy.sound c first) in
     let both = nothing_then g.S.Store _ _ _ k.end_rows.ensures.inside k.add_rows.ensures.inside in
     if_err _ _ k.remove_rows.result (caused_then (state g.S.Store k.args.transaction.now.conn.now) (state g.S.Store k.add_rows.new.transaction.conn.now) (state g.S.Store k.remove_rows.new.transaction.conn.now) clean2 both.survives k.remove_rows.ensures.inside.survives)
-    (k.remove_rows.ensures.why clean added.0 sound2 _ (added.1 _ (ended.1 c first)) tt)
+    (k.remove_rows.ensures.why clean added.0 sound2 _ (added.1 _ (ended.1 healthy.sound c first)) tt)
 
 pub returns-clause-healthy : goal.returns-clause-healthy
 returns-clause-healthy g k clean begun left healthy c has =
@@ -101,5 +101,5 @@ returns-clause-healthy g k clean begun left healthy c has =
     let size : length k.as_slice-2.result.now ≡ length k.args.plan.now.added = ap length k.as_slice-2.ensures in
     let many = subst (λ (n : ℕ). IsHealthy (n + left) old) (sym size) healthy in
     let sound1 = k.in_ok-end_rows.ensures.healthy clean1 begun (length k.as_slice-2.result.now + left) (healthy_none _ old many) c first in
-    let sound2 = k.in_ok-add_rows.ensures.healthy clean2 ended.0 left sound1 _ (ended.1 c first) in
-    k.remove_rows.ensures.healthy clean added.0 left (healthy_none left _ sound2) _ (added.1 _ (ended.1 c first))
+    let sound2 = k.in_ok-add_rows.ensures.healthy clean2 ended.0 left sound1 _ (ended.1 healthy.sound c first) in
+    k.remove_rows.ensures.healthy clean added.0 left (healthy_none left _ sound2) _ (added.1 _ (ended.1 healthy.sound c first))

@@ -13,7 +13,8 @@ pub returns-clause-changes : goal.returns-clause-changes
 returns-clause-changes g k usable c stands =
     let was = subst (λ s. StoreRepresents g.S.Store s c) (sym k.self.view_is) stands in
     let at : IsMomentNumber k.args.moment = search rules in
-    let made = k.in_ok-write_plan.ensures.made usable.0 c was.now in
+    let sound = (k.schema-live.ensures.live (k.write_plan.ensures.usable usable).1).0 in
+    let made = k.in_ok-write_plan.ensures.made usable.0 sound c was.now in
     (record { now = made.0; committed = made.1; catalog = was.catalog; clock = was.clock; dated = planned_dated k.args.table k.args.moment at k.args.plan.now.ended k.args.plan.now.added c was.dated }, tt)
 
 pub returns-in_err-write_plan-clause-changes : goal.returns-in_err-write_plan-clause-changes

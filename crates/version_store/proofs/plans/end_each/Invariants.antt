@@ -7,7 +7,7 @@ use Rattle.version_tables.specs.Steps.{CommitsNothing}
 use Rattle.version_store.specs.Changed.{ended_at}
 use Rattle.version_store.specs.Contents.{Contents}
 use Rattle.version_store.specs.PendingRemovals.{HasExcept}
-use Rattle.version_store.proofs.plans.end_rows.Given as goal
+use Rattle.version_store.proofs.plans.end_each.Given as goal
 
 abbrev pub invariant-loop-row : goal.invariant-loop-row
 invariant-loop-row g l =
