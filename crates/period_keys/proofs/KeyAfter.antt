@@ -1,4 +1,4 @@
--- Values of rows of combined rows in which given values stand right before the row's own.
+-- Values of rows of combined rows in which known values stand right before the row's own.
 use Rattle.std.proofs.Common.{◌≡◌, ◌∙◌, ◌<◌, ◌+◌, ◌++◌, ℕ, List, None, Option, Some, append_assoc, arith, inl, inr, length, length-append, refl, sym, ap}
 use Rattle.std.specs.Borrow.{Bor}
 use Rattle.std.specs.Prelude.{MatchOption, slice_get}
@@ -18,10 +18,10 @@ module _ (conditions : List (code.Tree CompareValues)) (known : List Value) (sta
   literal_holds compares first values rest long wide met =
       both_equal (slice_get values position) (Some value) (compares (first ++ known) values rest long wide met)
 
-  -- a given value at a place that the conditions equate with the position's
-  pub given_holds : (before index place other : ℕ) → before + length known ≡ start → position < width → place ≡ start + position → AreSaidEqual conditions place other → before + index ≡ other → slice_get known index ≡ Some value
+  -- a known value at a place that the conditions equate with the position's
+  pub known_holds : (before index place other : ℕ) → before + length known ≡ start → position < width → place ≡ start + position → AreSaidEqual conditions place other → before + index ≡ other → slice_get known index ≡ Some value
       → IsValueAfter conditions known start width position value
-  given_holds before index place other begins inside at said there its first values rest long wide met =
+  known_holds before index place other begins inside at said there its first values rest long wide met =
       let whole : List Value = (first ++ known) ++ (values ++ rest) in
       let own : slice_get whole place ≡ slice_get values position = at_place (first ++ known) values rest start width position place long wide inside at in
       let many : length (first ++ known) ≡ length first + length known = length-append first known in
@@ -31,9 +31,9 @@ module _ (conditions : List (code.Tree CompareValues)) (known : List Value) (sta
       ∙ at_place first known (values ++ rest) before (length known) index other (omega (arith, long, many, begins)) refl below (sym there) in
       sym own ∙ sym (said_same conditions place other said whole met) ∙ given ∙ its
 
--- a position of which no literal is said: all that is said of it is a given value
-pub or_given : (conditions : List (code.Tree CompareValues)) (known : List Value) (start width position : ℕ) → ((value : Value) → SaysWithin conditions start width Equal position value → ⊥)
+-- a position of which no literal is said: all that is said of it is a known value
+pub or_known : (conditions : List (code.Tree CompareValues)) (known : List Value) (start width position : ℕ) → ((value : Value) → SaysWithin conditions start width Equal position value → ⊥)
     → (found : Option (Bor Value)) → MatchOption found ((value : Value) → SaysKnown conditions known start width position value → ⊥) (λ value. SaysKnown conditions known start width position value.now)
     → MatchOption found ((value : Value) → SaysAfter conditions known start width position value → ⊥) (λ value. SaysAfter conditions known start width position value.now)
-or_given conditions known start width position none None given = λ value says. elim says [ inl literal ↦ none value literal | inr its ↦ given value its ]
-or_given conditions known start width position none (Some value) given = inr given
+or_known conditions known start width position none None given = λ value says. elim says [ inl literal ↦ none value literal | inr its ↦ given value its ]
+or_known conditions known start width position none (Some value) given = inr given

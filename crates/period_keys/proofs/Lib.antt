@@ -38,5 +38,6 @@ pub mod Partly
 pub mod Touched
 pub mod Covered
 mod KeyExamples
+mod KeyAfterExamples
 mod LawfulExamples
 mod CurrentExamples

@@ -2,7 +2,7 @@ use Rattle.std.proofs.Common.{ℕ, List, arith, get_or, subst}
 use Rattle.std.specs.List.{Contains}
 use Rattle.std.proofs.lemmas.List.Elements.{Contains-get_or}
 use Rattle.period_keys.specs.FixedKeys.{AreSaidEqual}
-use Rattle.period_keys.proofs.KeyAfter.{given_holds}
+use Rattle.period_keys.proofs.KeyAfter.{known_holds}
 use Rattle.period_keys.proofs.key_after.known_value.Goals as goal
 
 pub returns-in-Some-known_at-clause-held : goal.returns-in-Some-known_at-clause-held
@@ -15,5 +15,5 @@ returns-in-Some-known_at-clause-held c =
     let there : Contains c.in_ok-places.places.items other = subst (λ (l : List ℕ). Contains l other) c.deref-other-items.ensures.value (Contains-get_or places i 0 c.loop-other-test.true) in
     let said : AreSaidEqual conditions c.in-Some-checked_add.place other = (c.in_ok-places.ensures other).0 there in
     let (index, at, its) = c.in-Some-known_at.ensures in
-    given_holds conditions known c.args.start c.args.width c.args.position c.in-Some-known_at.value.now c.in-Some.before index c.in-Some-checked_add.place other
+    known_holds conditions known c.args.start c.args.width c.args.position c.in-Some-known_at.value.now c.in-Some.before index c.in-Some-checked_add.place other
     (omega (arith, c.in-Some.ensures)) c.if-position-width.false (omega (arith, c.in-Some-checked_add.ensures)) said at its
