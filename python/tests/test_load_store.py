@@ -319,7 +319,7 @@ class Cases(Stores):
 UPDATE PAY FOR PORTION OF P FROM DATE '2024-04-01' TO DATE '2024-07-01'
  SET PAY = 10 WHERE ENO = 1;
 """
-        for lines in (JANUARY + line, line):  # those of all nights, and those of the last
+        for lines in (JANUARY + line, line):  # of all nights, and of the last
             self.assertEqual(self.load(lines, '--recorded', 'at')[:2], (0, wanted))
         self.run_script(wanted)
         for lines in (JANUARY + line, line, JANUARY):
