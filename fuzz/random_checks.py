@@ -353,8 +353,8 @@ class Author:
         self.random = random.Random(number)
         self.pick, self.below = self.random.choice, self.random.randrange
         self.bad_share = 0  # of literals that name no value
-        self.missteps = 0  # how often the walk may still go wrong
-        self.aim = 0  # how deep the parentheses still have to go
+        self.missteps = 0  # times that the walk may still go wrong
+        self.aim = 0  # depth that the parentheses still have to reach
         self.rule = "statement"  # in which the walk is
 
     def is_lucky(self, share):

@@ -659,7 +659,7 @@ class Model:
         """The days with the set of rows that the ordinary query gives on each."""
         if isinstance(query, Select):
             return self.selected(query)
-        terms = [(None, self.asked(query.first))]  # what UNION and EXCEPT are between, and after
+        terms = [(None, self.asked(query.first))]  # UNION, EXCEPT and their terms
         for operator, operand in query.rest:
             days = self.asked(operand)
             if operator == 'INTERSECT':

@@ -7,7 +7,7 @@ from random_runs_model import (And, AsOf, At, Between, Column, Comparison, Conta
 
 TOKEN = re.compile(r"'(?:[^']|'')*'|\w+|<>|<=|>=|\S")
 FRACTION = re.compile(r'(.*:[0-9]{2})(?:\.([0-9]{6}))?')
-OR, AND, TEST = range(3)  # how strong a condition has to be where it is
+OR, AND, TEST = range(3)  # strengths that a condition may need at its place
 
 
 class Writer:

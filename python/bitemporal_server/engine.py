@@ -214,7 +214,7 @@ class Engine:
             if self.output in ready:
                 return
             if ready and connection.recv(1, socket.MSG_PEEK):
-                watched.remove(connection)  # its next message, which waits
+                watched.remove(connection)  # with its next message waiting
             else:
                 self.kill()
                 return
@@ -228,7 +228,7 @@ class Engine:
             return Outcome(kind, what=fields[0], number=int(fields[1]))
         if kind == 'refused':
             return Outcome(kind, code=int(fields[0]), day=fields[2])
-        self.lines(1)  # its columns, which the statement has too
+        self.lines(1)  # the columns, which the statement has too
         count = int(fields[1])
         if count > self.most_rows:
             self.skip(count)

@@ -107,7 +107,7 @@ class Server:
             self.accounts.add('clients')
             client.serve()
         except (OSError, wire.Gone, ssl.SSLError):
-            pass  # it is gone, or no client of this protocol
+            pass  # the client is gone, or none of this protocol
         finally:
             with self.lock:
                 del self.clients[thread]

@@ -23,7 +23,7 @@ DECLARED = {20: 'INTEGER', 21: 'INTEGER', 23: 'INTEGER', 18: 'VARCHAR', 19: 'VAR
 AROUND = ('BOOLEAN', 'REAL')
 UNKNOWN = (0, 705)
 INTEGER_FORMS = {20: '!q', 21: '!h', 23: '!i'}
-MOST_PARAMETERS = 65535  # that a message can have
+MOST_PARAMETERS = 65535  # the most that a message can have
 OPEN_END = '9999-12-31'
 # The first and the last value of a date and of a timestamp, by which drivers write infinity.
 INFINITE = {struct.pack('!i', 2 ** 31 - 1): 'infinity', struct.pack('!q', 2 ** 63 - 1): 'infinity',

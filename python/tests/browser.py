@@ -133,4 +133,4 @@ class Browser:
         self.process.terminate()
         self.process.wait(20)
         self.output.close()
-        shutil.rmtree(self.profile, ignore_errors=True)  # its helpers may still write there
+        shutil.rmtree(self.profile, ignore_errors=True)  # helpers may still write there

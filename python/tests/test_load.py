@@ -153,6 +153,15 @@ STATEMENTS = [
       " WHERE K = 1"]),
     ('rows of the whole time', '1,10,,,\n1,10,x,,\n', '--always',
      [INSERTS + "(1, 10, DATE '0001-01-01', DATE '9999-12-31')"]),
+    ('numbers as others write them', ''.join(
+        f'{key},{cell},2024-01-01,2024-02-01,\n'
+        for key, cell in enumerate(('+4', '-5', '00', ' 6', '-0', '9223372036854775807'))), '',
+     [INSERTS + ',\n '.join(
+         f"({key}, {number}, DATE '2024-01-01', DATE '2024-02-01')"
+         for key, number in enumerate((4, -5, 0, 6, 0, 9223372036854775807)))]),
+    ('numbers with zeros before them', '0,007,2024-01-01,2024-02-01,\n1,0,2024-01-01,2024-02-01,\n',
+     '', [INSERTS + "(0, 7, DATE '2024-01-01', DATE '2024-02-01'),\n"
+          " (1, 0, DATE '2024-01-01', DATE '2024-02-01')"]),
     ('a day later', '1,10,2024-01-31,9999-12-31,\n', '--days-later 1',
      [INSERTS + "(1, 10, DATE '2024-02-01', DATE '9999-12-31')"]),
     ('other dates and fractions', '1,"10,5",1.2.2024,29.02.2024,\n',

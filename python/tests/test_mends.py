@@ -157,7 +157,7 @@ class Mends(Case):
                     try:
                         more = changed(rows, tree) - asked
                     except (KeyError, StopIteration, ValueError, AttributeError, TypeError):
-                        more = set()  # it names what does not exist, and is refused
+                        more = set()  # refused for a name of nothing
                     if more:
                         worse.append((wrong, sentences))
             self.equal(f'{text}: {count} times spoilt', (worse,), ([],))

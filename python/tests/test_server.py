@@ -147,7 +147,7 @@ class Scripts(unittest.TestCase):
     def test_parameters(self) -> None:
         """Random statements with their literals as parameters give the report of the script."""
         for seed in range(300, 312):
-            script = random_scripts.run_script(2 * seed)  # those that are written plainly
+            script = random_scripts.run_script(2 * seed)  # one that is written plainly
             status, report, _ = program.got(['run'], script)
             if status == 2:
                 continue

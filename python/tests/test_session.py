@@ -228,7 +228,7 @@ class SessionOfAStore(Case):
         terminal.send('\x03')
         told = terminal.until('kills the program.\n')
         terminal.send('\x03')
-        if 'once more' in told:  # it may have been done before
+        if 'once more' in told:  # the statement may have been done before
             self.equal('killed', terminal.status(), 130)
 
     def test_launcher(self) -> None:

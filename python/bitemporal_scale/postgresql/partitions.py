@@ -60,7 +60,7 @@ def of_union(left: Places, right: Places) -> Places:
     if left is None and right is None:
         return None
     if left is None or right is None:
-        return frozenset()  # its rows are on every node
+        return frozenset()  # rows of it are on every node
     return left & right
 
 

@@ -10,7 +10,7 @@ from .slice_file import SliceFile
 from .source import Source
 
 MOST_SLICES = 500  # each has an open file while it is written, and while its answers are joined
-ROOM = 50_000  # what the INSERTs of loaded rows have besides their rows
+ROOM = 50_000  # for all but the rows in the INSERTs of loaded rows
 
 
 class Cutter:

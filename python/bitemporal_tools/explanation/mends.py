@@ -17,8 +17,8 @@ from .slips import CUT, SLIPS, Slip
 from .texts import alternatives, joined, shown
 
 MOST_ROUNDS, MOST_SHOWN = 16, 400
-FURTHER = 3  # how many tokens more a mend that no slip names has to reach
-LIKE = 0.7  # how alike a word and a misspelled one are
+FURTHER = 3  # tokens more that a mend which no slip names has to reach
+LIKE = 0.7  # the likeness of a word and a misspelled one
 KINDS = {'number': '0', 'text': "'"}
 # Words that nobody leaves out by mistake, and names and values, which have a guess of their own.
 NO_GUESS = {A_NAME, A_NUMBER, A_TEXT, THE_END, 'NOT', '+', '-', '.', '<', '<=', '<>', '>', '>=',
@@ -100,7 +100,7 @@ class Mending:
         if edit.put == CUT:
             found = parsed(self.tokens[:edit.start])
             is_right = found.tree is not None
-            if is_right and is_change(self.tokens):  # what follows might be a part of it
+            if is_right and is_change(self.tokens):  # the rest might be a part of it
                 rest = parsed(self.tokens[edit.start:])
                 is_right = isinstance(found.tree, (Update, Delete)) and \
                     found.tree.where is not None and rest.tree is not None

@@ -17,7 +17,7 @@ LAST_DAY = datetime.date.max
 MIDNIGHT = re.compile('[ T]00:00(:00([.]0+)?)?')
 TIME = re.compile('[ T]([0-9]{2}:[0-9]{2})(?:(:[0-9]{2})([.][0-9]+)?)?')
 ISO = 'YYYY-MM-DD'
-MOST_DIGITS = 18  # that fit into 64 bits, whatever they are
+MOST_DIGITS = 18  # so many fit into 64 bits, whatever they are
 LONGEST_SHOWN = 40
 
 

@@ -99,7 +99,7 @@ def is_definition(create: Create, table: Table) -> bool:
     """Whether a CREATE TABLE makes a table as this one; the system columns may differ."""
     try:
         return shape(Table(create)) == shape(table)
-    except ValueError:  # it has not one period and one key
+    except ValueError:  # not one period and one key
         return False
 
 

@@ -139,7 +139,7 @@ class Plane:
         left, right = self.axis.place(version.start), self.axis.place(version.end)
         low, high = self.level(version.since), self.level(version.until)
         if low <= high:
-            return  # it ended before the moments that are shown
+            return  # ended before the moments that are shown
         values = tuple(value for place, value in enumerate(version.values) if place != self.place)
         is_current = version.until == FOREVER
         ended = '' if is_current else f' to {version.until}'
