@@ -87,7 +87,7 @@ module _ {W N K : Type 0} (contents : W → Option (List ℕ)) (errors : N → O
       let silent : middle.fault ≡ None = (told.on refl).0 ∙ quiet in
       next_recorded old result middle results goes_on new quiet told (all_recorded (n + 1) middle results goes_on new silent rest)
 
-  -- one result alone
+  -- a reporter receives one result alone
   pub one_recorded : (old : Reporter W N) (result : K) (goes_on : Bool) (new : Reporter W N) → old.fault ≡ None → ReceivesResult contents errors text status forgotten old result goes_on new → ReceivesResults contents errors text status forgotten old (result ∷ []) goes_on new
   one_recorded old result false new quiet told = last_recorded old result new quiet told
   one_recorded old result true new quiet told = next_recorded old result new [] true new quiet told (none_recorded new ((told.on refl).0 ∙ quiet))

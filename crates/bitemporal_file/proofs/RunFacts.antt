@@ -65,7 +65,7 @@ pub same_refusal : (refusal other : Refusal) → Script refusal ≡ Script other
 same_refusal refusal other is = cc
 
 module _ {W N K : Type 0} (contents : W → Option (List ℕ)) (errors : N → Option (List ℕ)) (text : ℕ → K → List ℕ) (status : K → ℕ) (forgotten : K → ℕ) where
-  -- nothing was run
+  -- a run that a fault ended before any script
   pub none_run : (readers : List (Option (List ℕ))) (failed : Bool) (old : Reporter W N) (next : ℕ) (fault : RunFault) → old.fault ≡ None → IsScriptFault failed fault → ((refusal : Refusal) → fault ≡ Script refusal → MayRefuseNext {K = K} readers [] refusal) →
       Ends contents errors text status forgotten readers failed old [] (Err fault) (record old { next = next })
   none_run readers failed old next fault quiet its may = record {
@@ -86,7 +86,7 @@ module _ {W N K : Type 0} (contents : W → Option (List ℕ)) (errors : N → O
       is_fault : (refusal : Refusal) → ◌≡◌ {A = Result Bool RunFault} (Err fault) (Err (Script refusal)) → fault ≡ Script refusal
       is_fault refusal is = cc
 
-  -- no script was named yet
+  -- a run before its first script
   pub none_yet : (failed : Bool) (old : Reporter W N) → old.fault ≡ None → Ends {K = K} contents errors text status forgotten [] failed old [] (Ok true) old
   none_yet failed old quiet = record {
     stops = refl;
@@ -159,7 +159,7 @@ module _ {W N K : Type 0} (contents : W → Option (List ℕ)) (errors : N → O
   faulty_flow false old new results fault is told = (told.off refl).0
   faulty_flow true old new results fault is told = rw (told.on refl).0 tt
 
-  -- a script whose report met one
+  -- a script whose report met a fault
   pub one_faulty : (known : Option (List ℕ)) (failed : Bool) (script : List ℕ) (old : Reporter W N) (results : List K) (goes_on : Bool) (new : Reporter W N) (fault : RunFault) → new.fault ≡ Some fault → ReceivesResults contents errors text status forgotten (record old { next = 1 }) results goes_on new →
       Ends contents errors text status forgotten (known ∷ []) failed old (one script results goes_on) (Err fault) new
   one_faulty known failed script old results goes_on new fault is told =

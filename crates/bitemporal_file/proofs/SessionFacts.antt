@@ -162,12 +162,12 @@ module _ {K : Type 0} where
       ap (λ rest. text_in text n first ++ rest) (text-more text next turns turn ∙ ap (λ m. turns_text text next turns ++ text_in text m turn) count)
       ∙ sym (append_assoc (text_in text n first) (turns_text text next turns) (text_in text (n + length (results_in first ++ all_results turns)) turn))
 
-  -- the results alone, whatever the output got of them
+  -- a reporter heard the results, whatever its output got of them
   abbrev pub Heard : {W N : Type 0} → (N → Option (List ℕ)) → (ℕ → K → List ℕ) → (K → ℕ) → (K → ℕ) → Reporter W N → List K → Bool → Reporter W N → Type 0
   Heard {W} errors text status forgotten old results goes_on new = ReceivesResults (λ (out : W). None) errors text status forgotten old results goes_on new
 
   module _ {W N : Type 0} (contents : W → Option (List ℕ)) (errors : N → Option (List ℕ)) (text : ℕ → K → List ℕ) (status : K → ℕ) (forgotten : K → ℕ) where
-    -- a part is reported
+    -- a reporter receives a part's results
     pub ran_heard : (old : Reporter W N) (run : ScriptRun K) (goes_on : Bool) (new : Reporter W N) → ReceivesResults contents errors text status forgotten old run.results goes_on new → ReceivesTurn contents errors text status forgotten old (Ran run) goes_on new
     ran_heard old run goes_on new told = record {
       results = record {
@@ -184,7 +184,7 @@ module _ {K : Type 0} where
       written = λ none. (told.written none).0;
     }
 
-    -- a command's line is answered
+    -- a reporter receives the answer to a command's line
     pub line_received : (old : Reporter W N) (out : W) (fault : Option RunFault) (bytes line told : List ℕ) (goes_on : Bool) → old.fault ≡ None → (goes_on ≡ true → Appends (contents old.out) (contents out) told) → (goes_on ≡ true → fault ≡ None) → (goes_on ≡ false → IsSome fault × IfSome fault IsReportFault) →
         ReceivesTurn contents errors text status forgotten old (LineAnswered bytes line told) goes_on (record old { out = out; fault = fault })
     line_received old out fault bytes line told true quiet wrote none some = record {
@@ -263,7 +263,7 @@ module _ {K : Type 0} where
           ];
     }
 
-    -- by a fault that is none of the report
+    -- a session ended by a fault that is none of the report
     pub failed_heard : (old : Reporter W N) (turns : List (Turn K)) (goes_on : Bool) (fault : RunFault) (new : Reporter W N) → new.fault ≡ None → Heard errors text status forgotten old (all_results turns) goes_on new → Written old turns new → EndsWith contents errors text status forgotten old turns (Err fault) new
     failed_heard old turns goes_on fault new quiet told wrote =
         ends_heard old turns goes_on (Err fault) new told wrote (rw quiet tt) (λ flow is. let no : ⊥ = cc in absurd no)
@@ -272,12 +272,12 @@ module _ {K : Type 0} where
     report_fault old turns goes_on fault new is told =
         its_own (λ (out : W). None) errors text status forgotten new.fault fault is (faulty_flow (λ (out : W). None) errors text status forgotten goes_on old new (all_results turns) fault is told)
 
-    -- by a fault of the report
+    -- a session ended by a fault of the report
     pub faulty_heard : (old : Reporter W N) (turns : List (Turn K)) (goes_on : Bool) (fault : RunFault) (new : Reporter W N) → new.fault ≡ Some fault → Heard errors text status forgotten old (all_results turns) goes_on new → Written old turns new → EndsWith contents errors text status forgotten old turns (Err fault) new
     faulty_heard old turns goes_on fault new is told wrote =
         ends_heard old turns goes_on (Err fault) new told wrote (its_fault (λ (out : W). None) errors text status forgotten new.fault fault is (faulty_flow (λ (out : W). None) errors text status forgotten goes_on old new (all_results turns) fault is told)) (λ flow same. let no : ⊥ = cc in absurd no)
 
-    -- without a fault
+    -- a reporter without a fault has written all turns
     pub quiet_heard : (old : Reporter W N) (turns : List (Turn K)) (goes_on : Bool) (new : Reporter W N) → new.fault ≡ None → Heard errors text status forgotten old (all_results turns) goes_on new → Written old turns new → EndsWith contents errors text status forgotten old turns (Ok goes_on) new
     quiet_heard old turns goes_on new quiet told wrote =
         ends_heard old turns goes_on (Ok goes_on) new told wrote (rw quiet tt) (λ flow is. let same : flow ≡ goes_on = cc in (same, quiet))
@@ -342,7 +342,7 @@ module _ {S K W N : Type 0} (g : Ghosts S) (IsStep : History → List Lexeme →
       (refused (placed_at start refusal) ∷ [], told, inr (refusal, may, refl, same), λ usable history stands. (history, inr (refusal, may, refl, refl), subst (EngineRepresents g history) (sym same) stands))
 
 module _ {S K W N : Type 0} (g : Ghosts S) (made : List ℕ → List ℕ → Type 0) (IsStep : History → List Lexeme → K → History → Type 0) (IsStepOver : EngineState S → List Lexeme → K → EngineState S → Type 0) (refused : Refusal → K) (contents : W → Option (List ℕ)) (errors : N → Option (List ℕ)) (text : ℕ → K → List ℕ) (status : K → ℕ) (forgotten : K → ℕ) where
-  -- a turn was made
+  -- a turn was made, and the reporter has received it
   abbrev pub Turned : Reporter W N → Reporter W N → EngineState S → EngineState S → ℕ → Bool → List ℕ → Option (List ℕ) → Bool → Bool → Type 0
   Turned old new before after start starts bytes left commands goes_on =
       (turn : Turn K) × (bytes_in turn ≡ bytes) × IsTurn starts turn left × (ends_line turn ≡ commands)

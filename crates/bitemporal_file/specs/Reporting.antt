@@ -60,7 +60,7 @@ pub record ReceivesResult {W N K : Type 0} (contents : W → Option (List ℕ))
   -- the versions that it forgets are counted, and if they are the first standard error is told
   pub tally : new.notes.tally ≡ counted old.notes.tally old.next (forgotten kept)
   pub told : TellsFirst errors old.notes new.notes
-  -- without a fault its records are written, numbered on, and nothing else
+  -- if there is no fault, its records are written, numbered on, and nothing else
   pub written : new.fault ≡ None
       → Appends (contents old.out) (contents new.out) (text old.next kept)
       × (new.next ≡ old.next + 1)

@@ -154,7 +154,7 @@ pub record AreTurnsOf {K : Type 0} (known : Option (List ℕ)) (failed : Bool)
       → IfSome left (λ rest. IsUnfinished rest × HasNoCommand (begins_after true turns) rest)
   pub fault : IfErr ended (IsSessionFault failed)
 
--- the end of a session whose reporter received the results of these turns, before a fault or not
+-- the end of a session whose reporter received the turns' results, before a fault or not
 pub record EndsWith {W N K : Type 0} (contents : W → Option (List ℕ))
     (errors : N → Option (List ℕ)) (text : ℕ → K → List ℕ) (status : K → ℕ) (forgotten : K → ℕ)
     (old : Reporter W N) (turns : List (Turn K)) (ended : Result Bool RunFault)

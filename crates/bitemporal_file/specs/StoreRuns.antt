@@ -155,7 +155,7 @@ module _ {S K W N : Type 0} (g : Ghosts S) (made : List ℕ → List ℕ → Typ
       (noted_refusal refused) contents errors (λ number noted. text number noted.kept)
       (λ noted. status noted.kept) (λ noted. noted.forgotten)
 
--- with an audit of each answer, or without; where the system makes files
+-- a run with an audit of each answer, or without; where the system makes files
 abbrev pub RunsAs : {S W N : Type 0} → Ghosts S → (List ℕ → List ℕ → Type 0)
     → (W → Option (List ℕ)) → (N → Option (List ℕ)) → (audits timed : Bool)
     → List (Option (List ℕ)) → Option (List ℕ) → Bool → Reporter W N → Held S
@@ -168,8 +168,8 @@ RunsAs g made contents errors true =
     (λ entry. entry.result) refused_entry contents errors entry_text entry_status
 
 -- a store that is opened and left, and the run in between, or that nothing was run; if it is
--- used, its connection was usable as it was opened if it is so as it is left, and others have in
--- its database what they had
+-- used, its connection was usable as it was opened if it is so as it is left, and the other tables
+-- of its database are as they were
 abbrev pub Uses : {S T W N : Type 0} → Ghosts S → Filing S → (Reporter W N → Type 0)
     → (Held S → Result T RunFault → Held S → Reporter W N → Type 0)
     → Result ℕ RunFault → Reporter W N → Type 0

@@ -58,7 +58,7 @@ pub fn is_called(words: &[String]) -> bool
     }
 }
 
-// Tells what is asked of the store. Gives the exit status.
+// Reports what is asked of the store. Gives the exit status.
 fn inspect_asked<S: Start + Copy, W: Write, E: Write>(
     alloc: Global,
     stores: &mut StoreFiles<'_, S>,
@@ -87,7 +87,7 @@ fn inspect_asked<S: Start + Copy, W: Write, E: Write>(
     }
 }
 
-// Tells what is asked of the store, or runs what is asked for. Gives the exit status.
+// Reports what is asked of the store, or runs what is asked for. Gives the exit status.
 fn run_asked<S: Start + Copy, Q: Scripts + Places, R: Read, W: Write, E: Write>(
     alloc: Global,
     stores: &mut StoreFiles<'_, S>,
@@ -151,10 +151,10 @@ pub fn run_file_program<S: Start + Copy, Q: Scripts + Places, R: Read, W: Write,
 
     // The words ask for nothing that runs: it shows why or is out of memory, and opens and reads
     // nothing. Or it does what they ask for. A run of scripts is from whatever history the store
-    // stood for: all results are of that run, the report is theirs, and the store stands for the
-    // history to which they led: so it is for the next run. What others have in its database stays.
+    // represented: all results are of that run, the report is theirs, and the store represents the
+    // history to which they led: so it is for the next run. The other tables of its database stay.
     // If no version was forgotten standard error has no note, or else these come first there.
-    // If the tables are listed or the store is verified, the output gets what is told of the
+    // If the tables are listed or the store is verified, the output gets the report of the
     // history that the store represents, no statement is reported, no input is read, and the
     // history is the same. With --read-only all that is over a database in memory, which the bytes
     // of the store's files hold: no store is opened in its files.

@@ -43,7 +43,7 @@ fn placed(start: usize, refusal: Refusal) -> Option<Refusal>
 }
 
 // Reports that a part that begins at this byte is refused as a whole, as the refusal of one
-// statement. Says whether the session goes on.
+// statement. Says whether the session continues.
 fn refuse_part<K: Reported + Drop, W: Write, E: Write>(
     start: usize,
     refusal: Refusal,
@@ -92,7 +92,7 @@ fn run_whole<S: Alter, K: PieceResult<S> + Reported + Drop, C: Clock, W: Write, 
     }
 }
 
-// Does what the line of a command asks for, and tells it. Says whether that met no fault.
+// Does what the line of a command asks for, and writes its answer. Says whether that met no fault.
 fn run_command<S: Alter, C: System, W: Write, E>(
     alloc: Global,
     engine: &mut Engine<S>,
