@@ -4,7 +4,8 @@ Each session is run over a store of its own once for each allocation that it mak
 refused, by the library of fuzz/allocations. A statement or a command is then refused by 61, and all
 else is reported as without it; or the session ends in the fault of memory. The store has what the
 statements did that were reported, and after a fault perhaps what the next one does; a copy is there
-if that was reported, whole, and no other file.
+if that was reported, whole, and no other file. (Without memory as it ends a run may leave the log,
+which the store does not need then.)
 """
 import functools
 import os
@@ -107,8 +108,10 @@ class Session:
             status, report, told = run([store, *self.words],
                                        text.replace('COPY', str(copy)).encode(), **env)
             names = set(os.listdir(name))
+            if status != 2:  # then all is in the store alone, though its log may be left there
+                store.with_name('a.store-wal').unlink(missing_ok=True)
             has = [self.kept(file) if file.name in names else None for file in (store, copy)]
-        others = names - {'a.store', 'copy.store', *['a.store-wal'] * (status == 2)}
+        others = names - {'a.store', 'a.store-wal', 'copy.store'}
         return status, groups_of(self.shown(report)), told.splitlines(), has, others
 
     def find_left(self, places):
