@@ -1,10 +1,12 @@
 -- Needed rows of those that references see are enough: a query gives the same of them.
 use Rattle.std.proofs.Common.{◌≡◌, ◌↔◌, ◌&&◌, ◌==◌, ◌+◌, ◌++◌, ◌∷◌, ◌∙◌, ℕ, ℤ, Bool, true, List, [], append_assoc, append-nil, arith, eqb-true, filter, length, length-append, map, refl, Some, sym, ap, subst, take, inl, inr}
-use Rattle.std.specs.Prelude.{slice_index_or}
+use Rattle.std.specs.Prelude.{◌-◌, ◌<◌, slice_get, slice_index_or}
 use Rattle.std.specs.List.{AllByRecursion, Contains, list_all}
 use Rattle.std.specs.List.Sorted.{IsPermutation}
 use Rattle.std.proofs.lemmas.Bool.{and_parts}
 use Rattle.std.proofs.lemmas.Bool.Decides.{nat_tests}
+use Rattle.std.proofs.lemmas.List.{take_all, take_more}
+use Rattle.std.proofs.lemmas.Option.{get_or_from_slice_get, slice_get_within}
 use Rattle.std.proofs.lemmas.List.Sorted.{Contains-permutation, IsPermutation-sym}
 use Rattle.sqlite_trees.proofs.ListLemmas.{IsPermutation-filter, all-append, all_both, filter-map}
 use Rattle.period_core.specs.Windows.{window_sees}
@@ -13,7 +15,7 @@ use Rattle.period_core.specs.declared.value.Value.{Value}
 use Rattle.period_core.specs.declared.version.VersionRow.{VersionRow}
 use Rattle.period_core.specs.declared.window.Window.{Window}
 use Rattle.period_core.specs.declared.window.Window.TheVariants.{Now}
-use Rattle.temporal_model.specs.Snapshot.{InSnapshot}
+use Rattle.temporal_model.specs.Snapshot.{Equivalent, InSnapshot}
 use Rattle.temporal_model.proofs.Members.{Contains-cons_cases, Contains-nil}
 use Rattle.temporal_model.proofs.Snapshots.{InSnapshot-start, held, in_snapshot}
 use Rattle.sql_statements.specs.declared.tree.SetOperator.{SetOperator}
@@ -30,10 +32,11 @@ use Rattle.history_model.specs.Histories.{History}
 use Rattle.history_model.specs.OrdinaryQuery.{VisibleInHistory, InCombined, InProduct, InQuery, VisibleInTables, meets_all}
 use Rattle.history_model.specs.Versions.{row_of}
 use Rattle.sequenced_ops.specs.Planning.{IsPruned}
+use Rattle.sequenced_ops.proofs.TwoRows.{holds-append, holds-nil, holds-push}
 use Rattle.period_keys.specs.declared.key_range.KeyRange.{KeyRange}
-use Rattle.period_keys.specs.FixedKeys.{IsRangeWithin}
+use Rattle.period_keys.specs.FixedKeys.{IsRangeAfter, IsRangeWithin}
 use Rattle.period_keys.specs.Keys.{values_at}
-use Rattle.period_keys.specs.Rows.{RowsByKey}
+use Rattle.period_keys.specs.Rows.{RowsByKey, rows_within}
 use Rattle.period_keys.specs.Ranges.{is_in_range}
 use Rattle.period_keys.specs.Versions.{has_key_in}
 use Rattle.period_keys.proofs.Members.{from_filter, from_map, in_filter, in_map}
@@ -44,7 +47,7 @@ use Rattle.version_store.specs.Scans.{seen_of}
 use Rattle.ended_versions.specs.Packed.{seen_through}
 use Rattle.script_engine.specs.engine.Answering.{AreRowsSeen, IsKnown, IsOfCatalog, SeesRows}
 use Rattle.script_engine.specs.engine.InMemory.{HaveCurrentRows, rows_in}
-use Rattle.script_engine.specs.engine.Needed.{AddNeeded, IsNeeded, IsNeededBy, SeeNeeded, SeesWidth}
+use Rattle.script_engine.specs.engine.Needed.{AddNeeded, EndInRow, InRows, IsNeeded, IsNeededAfter, IsNeededBy, IsPrunedAfter, SeeNeeded, SeesWidth}
 use Rattle.script_engine.specs.engine.Stored.{AreOfHistory}
 use Rattle.script_engine.proofs.Answering.{at_length}
 use Rattle.script_engine.proofs.Fits.{all_are, each_among, rows_fit}
@@ -134,76 +137,182 @@ module _ (history : History) (c : Contents) (reference : QueryReference) (said :
       subst (λ (v : List Value). has_kinds reference.kinds v ≡ true) same (each_in (λ (r : PeriodRow). has_kinds reference.kinds r.values ≡ true) (map row_of shown_rows) fit row among)
 
   -- the needed rows of rows of some kinds have these kinds too
-  pub needed_kinds : (conjuncts : Conditions) (start : ℕ) (rows : List PeriodRow) → IsKnown c.tables reference → IsNeeded history conjuncts start reference rows → list_all (λ (row : PeriodRow). has_kinds reference.kinds row.values) rows ≡ true
-  needed_kinds conjuncts start rows known needed =
+  pub needed_kinds : (earlier : List (List PeriodRow)) (conjuncts : Conditions) (start : ℕ) (rows : List PeriodRow) → IsKnown c.tables reference → IsNeededAfter history earlier conjuncts start reference rows → list_all (λ (row : PeriodRow). has_kinds reference.kinds row.values) rows ≡ true
+  needed_kinds earlier conjuncts start rows known needed =
       all_are (λ (row : PeriodRow). has_kinds reference.kinds row.values) rows
       (each_among (λ (row : PeriodRow). has_kinds reference.kinds row.values ≡ true) rows
       (λ row among. sees_kinds known row.period.start row.values (needed.sound row.period.start row.values (InSnapshot-start rows row among))))
 
 -- ---- the needed rows of one reference
 
-pruned_along : (conjuncts : Conditions) (start : ℕ) (A B : ℤ → List Value → Type 0) (rows : List PeriodRow) → ((day : ℤ) (values : List Value) → (A day values ↔ B day values)) → IsPruned conjuncts start A rows → IsPruned conjuncts start B rows
-pruned_along conjuncts start A B rows same pruned = record {
-  sound = λ day values h. (same day values).0 (pruned.sound day values h);
-  complete = λ day first values rest e h met. pruned.complete day first values rest e ((same day values).1 h) met;
-}
+-- the current rows in memory are those that the reference sees
+current_same : (history : History) (c : Contents) (tables : List RowsByKey) (reference : QueryReference) → AreOfHistory history c → HaveCurrentRows c tables → reference.window ≡ Now → (day : ℤ) (values : List Value) →
+    (InSnapshot (map row_of (rows_in tables reference.table)) day values ↔ VisibleInHistory history day reference values)
+current_same history c tables reference said current now =
+    let all : List PeriodRow = map row_of (rows_in tables reference.table) in
+    let seen : AreRowsSeen c reference.table reference.window all = subst (λ (w : Window). AreRowsSeen c reference.table w all) (sym now) (current_seen c tables reference.table all current refl) in
+    (sees_rows history c reference all said seen).daily
 
 -- of the current rows in memory, the rows that are not ruled out are needed
 pub current_needed : (history : History) (c : Contents) (tables : List RowsByKey) (conjuncts : Conditions) (start : ℕ) (reference : QueryReference) (rows : List PeriodRow) → AreOfHistory history c → HaveCurrentRows c tables → reference.window ≡ Now →
     IsPruned conjuncts start (InSnapshot (map row_of (rows_in tables reference.table))) rows → IsNeeded history conjuncts start reference rows
 current_needed history c tables conjuncts start reference rows said current now pruned =
-    let all : List PeriodRow = map row_of (rows_in tables reference.table) in
-    let seen : AreRowsSeen c reference.table reference.window all = subst (λ (w : Window). AreRowsSeen c reference.table w all) (sym now) (current_seen c tables reference.table all current refl) in
-    pruned_along conjuncts start (InSnapshot all) (λ day. VisibleInHistory history day reference) rows (sees_rows history c reference all said seen).daily pruned
+    let same = current_same history c tables reference said current now in
+    record {
+      sound = λ day values h. (same day values).0 (pruned.sound day values h);
+      complete = λ day first values rest e h met. pruned.complete day first values rest e ((same day values).1 h) met;
+    }
 
--- the versions of the keys that the conditions leave
-module _ (conjuncts : Conditions) (start width : ℕ) (positions : List ℕ) (range : KeyRange) (versions : List VersionRow) (rows : List PeriodRow) where
+-- and those that are looked up
+pub current_looked_up : (StandBefore : ℤ → List Value → Type 0) (history : History) (c : Contents) (tables : List RowsByKey) (conjuncts : Conditions) (start : ℕ) (reference : QueryReference) (rows : List PeriodRow) → AreOfHistory history c → HaveCurrentRows c tables →
+    reference.window ≡ Now → IsPrunedAfter StandBefore conjuncts start (InSnapshot (map row_of (rows_in tables reference.table))) rows → IsPrunedAfter StandBefore conjuncts start (λ day. VisibleInHistory history day reference) rows
+current_looked_up StandBefore history c tables conjuncts start reference rows said current now pruned =
+    let same = current_same history c tables reference said current now in
+    record {
+      sound = λ day values h. (same day values).0 (pruned.sound day values h);
+      complete = λ day first values rest e before h met. pruned.complete day first values rest e before ((same day values).1 h) met;
+    }
+
+-- the versions of the keys in a range
+module _ (width : ℕ) (positions : List ℕ) (range : KeyRange) (versions : List VersionRow) where
   abbrev ranged : List VersionRow
   ranged = filter (has_key_in positions range) versions
 
-  pub ranged_needed : IsRangeWithin conjuncts start width positions range → ((v : VersionRow) → Contains versions v → length v.values ≡ width) → IsPruned conjuncts start (InSnapshot (map row_of ranged)) rows →
+  from_ranged : (day : ℤ) (values : List Value) → InSnapshot (map row_of ranged) day values → InSnapshot (map row_of versions) day values
+  from_ranged day values h =
+      let (row, among, same, on) = held (map row_of ranged) day values h in
+      let (v, its, made) = from_map row_of ranged row among in
+      in_snapshot (map row_of versions) day values
+      (row, subst (Contains (map row_of versions)) made (in_map row_of versions v (from_filter (has_key_in positions range) versions v its).0), same, on)
+
+  in_ranged : ((v : VersionRow) → Contains versions v → length v.values ≡ width) → (day : ℤ) (values : List Value) → (length values ≡ width → is_in_range range (values_at positions values) ≡ true) →
+      InSnapshot (map row_of versions) day values → InSnapshot (map row_of ranged) day values
+  in_ranged widths day values within h =
+      let (row, among, same, on) = held (map row_of versions) day values h in
+      let (v, its, made) = from_map row_of versions row among in
+      let its_values : v.values ≡ values = ap (λ (r : PeriodRow). r.values) made ∙ same in
+      let long : length values ≡ width = sym (ap length its_values) ∙ widths v its in
+      let its_key : has_key_in positions range v ≡ true = ap (λ (vs : List Value). is_in_range range (values_at positions vs)) its_values ∙ within long in
+      in_snapshot (map row_of ranged) day values
+      (row, subst (Contains (map row_of ranged)) made (in_map row_of ranged v (in_filter (has_key_in positions range) versions v its its_key)), same, on)
+
+-- those that the conditions leave
+module _ (conjuncts : Conditions) (start width : ℕ) (positions : List ℕ) (range : KeyRange) (versions : List VersionRow) (rows : List PeriodRow) where
+  pub ranged_needed : IsRangeWithin conjuncts start width positions range → ((v : VersionRow) → Contains versions v → length v.values ≡ width) → IsPruned conjuncts start (InSnapshot (map row_of (ranged width positions range versions))) rows →
       IsPruned conjuncts start (InSnapshot (map row_of versions)) rows
   ranged_needed within widths pruned = record {
-    sound = λ day values h.
-        let (row, among, same, on) = held (map row_of ranged) day values (pruned.sound day values h) in
-        let (v, its, made) = from_map row_of ranged row among in
-        in_snapshot (map row_of versions) day values
-        (row, subst (Contains (map row_of versions)) made (in_map row_of versions v (from_filter (has_key_in positions range) versions v its).0), same, on);
+    sound = λ day values h. from_ranged width positions range versions day values (pruned.sound day values h);
     complete = λ day first values rest e h met.
-        let (row, among, same, on) = held (map row_of versions) day values h in
-        let (v, its, made) = from_map row_of versions row among in
-        let its_values : v.values ≡ values = ap (λ (r : PeriodRow). r.values) made ∙ same in
-        let long : length values ≡ width = sym (ap length its_values) ∙ widths v its in
-        let its_key : has_key_in positions range v ≡ true = ap (λ (vs : List Value). is_in_range range (values_at positions vs)) its_values ∙ within first values rest e long met in
-        pruned.complete day first values rest e
-        (in_snapshot (map row_of ranged) day values
-        (row, subst (Contains (map row_of ranged)) made (in_map row_of ranged v (in_filter (has_key_in positions range) versions v its its_key)), same, on)) met;
+        pruned.complete day first values rest e (in_ranged width positions range versions widths day values (λ long. within first values rest e long met) h) met;
   }
+
+-- ---- rows that stand before
+
+in_rows_more : (earlier : List (List PeriodRow)) (rows : List PeriodRow) (day : ℤ) (first second : List Value) → InRows earlier day first → InSnapshot rows day second → InRows (earlier ++ rows ∷ []) day (first ++ second)
+in_rows_more [] rows day first second none here = (second, [], here, refl, append-nil second ∙ sym (ap (λ (l : List Value). l ++ second) none))
+in_rows_more (others ∷ earlier) rows day first second (before, behind, there, more, is) here = (
+  before,
+  behind ++ second,
+  there,
+  in_rows_more earlier rows day behind second more here,
+  sym (append_assoc before behind second) ∙ ap (λ (l : List Value). l ++ second) is,
+)
+
+in_rows_end : (earlier : List (List PeriodRow)) (rows : List PeriodRow) (day : ℤ) (values : List Value) → InRows (earlier ++ rows ∷ []) day values → EndInRow rows day values
+in_rows_end [] rows day values (last, none, here, is_none, is) = ([], last, here, sym (append-nil last) ∙ sym (ap (λ (l : List Value). last ++ l) is_none) ∙ is)
+in_rows_end (others ∷ earlier) rows day values (before, behind, there, more, is) =
+    let (first, last, here, its) = in_rows_end earlier rows day behind more in
+    (before ++ first, last, here, append_assoc before first last ∙ ap (λ (l : List Value). before ++ l) its ∙ is)
+
+-- ---- rows that are looked up after one of those that stand before them
+
+module _ (conjuncts : Conditions) (start width : ℕ) (current : RowsByKey) where
+  abbrev pub AreLookedUp : List PeriodRow → List PeriodRow → Type 0
+  AreLookedUp previous rows = IsPrunedAfter (EndInRow previous) conjuncts start (InSnapshot (map row_of current.rows)) rows
+
+  pub looked_up_none : AreLookedUp [] []
+  looked_up_none = record {
+    sound = λ day values h. absurd (holds-nil day values h);
+    complete = λ day first values rest long (before, last, here, is) there met. absurd (holds-nil day last here);
+  }
+
+  -- after one row more, those whose keys are in the range that its values leave
+  pub looked_up_more : (range : KeyRange) (previous : List PeriodRow) (row : PeriodRow) (rows new : List PeriodRow) → IsRangeAfter conjuncts row.values start width current.positions range →
+      ((v : VersionRow) → Contains current.rows v → length v.values ≡ width) → IsPruned conjuncts start (InSnapshot (rows ++ map row_of (rows_within current range))) new → AreLookedUp previous rows → AreLookedUp (previous ++ row ∷ []) new
+  looked_up_more range previous row rows new within widths pruned old =
+      let found : List PeriodRow = map row_of (rows_within current range) in
+      record {
+        sound = λ day values h. elim ((holds-append rows found day values).0 (pruned.sound day values h)) [
+          | inl was ↦ old.sound day values was
+          | inr here ↦ from_ranged width current.positions range current.rows day values here
+        ];
+        complete = λ day first values rest long (before, last, here, is) there met.
+            pruned.complete day first values rest long
+            ((holds-append rows found day values).1 (elim ((holds-push previous row day last).0 here) [
+              | inl was ↦ inl (old.complete day first values rest long (before, last, was, is) there met)
+              | inr (same, from, to) ↦ let its : before ++ row.values ≡ first = ap (λ (l : List Value). before ++ l) same ∙ is in
+                  inr (in_ranged width current.positions range current.rows widths day values
+                  (λ wide. within before values rest (ap length its ∙ long) wide (subst (λ (l : List Value). meets_all conjuncts (l ++ (values ++ rest)) ≡ true) (sym its) met)) there)
+            ])) met;
+      }
+
+  -- rows with the same snapshots are looked up too
+  pub looked_up_alike : (previous rows others : List PeriodRow) → Equivalent rows others → AreLookedUp previous rows → AreLookedUp previous others
+  looked_up_alike previous rows others same looked = record {
+    sound = λ day values h. looked.sound day values ((same day values).1 h);
+    complete = λ day first values rest long before there met. (same day values).0 (looked.complete day first values rest long before there met);
+  }
+
+-- rows that are needed whatever stands before them
+pub needed_always : (history : History) (earlier : List (List PeriodRow)) (conjuncts : Conditions) (start : ℕ) (reference : QueryReference) (rows : List PeriodRow) → IsNeeded history conjuncts start reference rows →
+    IsNeededAfter history earlier conjuncts start reference rows
+needed_always history earlier conjuncts start reference rows needed = record {
+  sound = needed.sound;
+  complete = λ day first values rest long before sees met. needed.complete day first values rest long sees met;
+}
+
+-- rows that are needed after one of those of the last of the earlier lists
+pub needed_after_last : (history : History) (lists : List (List PeriodRow)) (previous : List PeriodRow) (conjuncts : Conditions) (start : ℕ) (reference : QueryReference) (rows : List PeriodRow) →
+    IsPrunedAfter (EndInRow previous) conjuncts start (λ day. VisibleInHistory history day reference) rows → IsNeededAfter history (lists ++ previous ∷ []) conjuncts start reference rows
+needed_after_last history lists previous conjuncts start reference rows pruned = record {
+  sound = pruned.sound;
+  complete = λ day first values rest long before sees met. pruned.complete day first values rest long (in_rows_end lists previous day first before) sees met;
+}
+
+-- a list that ends with this element is those before it, and then it
+pub last_of : {X : Type 0} (xs : List X) (x : X) → slice_get xs (length xs - 1) ≡ Some x → (front : List X) × (xs ≡ front ++ x ∷ [])
+last_of xs x there =
+    let below : length xs - 1 < length xs = slice_get_within xs (length xs - 1) x there in (
+      take (length xs - 1) xs,
+      sym (take_all (length xs - 1 + 1) xs (omega arith)) ∙ take_more xs (length xs - 1) x below
+          ∙ ap (λ y. take (length xs - 1) xs ++ y ∷ []) (get_or_from_slice_get xs (length xs - 1) x x there),
+    )
 
 -- ---- lists in their places
 
--- the lists in the places of a list of references
-abbrev NeededIn : List (List PeriodRow) → History → Conditions → ℕ → List QueryReference → Type 0
-NeededIn tables history conjuncts start [] = Unit {0}
-NeededIn tables history conjuncts start (reference ∷ references) =
-    IsNeeded history conjuncts start reference (rows_for tables reference)
-    × ((width : ℕ) × SeesWidth history reference width × NeededIn tables history conjuncts (start + width) references)
+-- the lists in the places of these references
+abbrev NeededIn : List (List PeriodRow) → History → Conditions → List (List PeriodRow) → ℕ → List QueryReference → Type 0
+NeededIn tables history conjuncts earlier start [] = Unit {0}
+NeededIn tables history conjuncts earlier start (reference ∷ references) =
+    IsNeededAfter history earlier conjuncts start reference (rows_for tables reference)
+    × ((width : ℕ) × SeesWidth history reference width × NeededIn tables history conjuncts (earlier ++ rows_for tables reference ∷ []) (start + width) references)
 
 abbrev QueryNeededIn : List (List PeriodRow) → History → Query → Type 0
-QueryNeededIn tables history (one select) = NeededIn tables history select.conjuncts 0 select.references
+QueryNeededIn tables history (one select) = NeededIn tables history select.conjuncts [] 0 select.references
 QueryNeededIn tables history (both operator left right) = QueryNeededIn tables history left × QueryNeededIn tables history right
 
-as_many : (history : History) (conjuncts : Conditions) (start : ℕ) (references : List QueryReference) (lists : List (List PeriodRow)) → SeeNeeded history conjuncts start references lists → length lists ≡ length references
-as_many history conjuncts start [] [] needed = refl
-as_many history conjuncts start [] (rows ∷ lists) needed = absurd needed
-as_many history conjuncts start (reference ∷ references) [] needed = absurd needed
-as_many history conjuncts start (reference ∷ references) (rows ∷ lists) needed =
+as_many : (history : History) (conjuncts : Conditions) (earlier : List (List PeriodRow)) (start : ℕ) (references : List QueryReference) (lists : List (List PeriodRow)) → SeeNeeded history conjuncts earlier start references lists →
+    length lists ≡ length references
+as_many history conjuncts earlier start [] [] needed = refl
+as_many history conjuncts earlier start [] (rows ∷ lists) needed = absurd needed
+as_many history conjuncts earlier start (reference ∷ references) [] needed = absurd needed
+as_many history conjuncts earlier start (reference ∷ references) (rows ∷ lists) needed =
     let (here, (width, wide, more)) = needed in
-    let rest = as_many history conjuncts (start + width) references lists more in
+    let rest = as_many history conjuncts (earlier ++ rows ∷ []) (start + width) references lists more in
     omega (arith, rest)
 
 query_as_many : (history : History) (query : Query) (lists : List (List PeriodRow)) → IsNeededBy history query lists → length lists ≡ length (references_of query)
-query_as_many history (one select) lists needed = as_many history select.conjuncts 0 select.references lists needed
+query_as_many history (one select) lists needed = as_many history select.conjuncts [] 0 select.references lists needed
 query_as_many history (both operator left right) lists (first, second, split, a, b) =
     let one_side = query_as_many history left first a in
     let other = query_as_many history right second b in
@@ -222,27 +331,25 @@ placed_parts place (x ∷ xs) ys h =
     both_true : (a b : Bool) → a ≡ true → b ≡ true → (a && b) ≡ true
     both_true a b e f = rw e f
 
-placed : (history : History) (conjuncts : Conditions) (start : ℕ) (references : List QueryReference) (before lists behind : List (List PeriodRow)) → are_in_place (length before) references ≡ true → SeeNeeded history conjuncts start references lists →
-    NeededIn (before ++ (lists ++ behind)) history conjuncts start references
-placed history conjuncts start [] before lists behind in_place needed = tt
-placed history conjuncts start (reference ∷ references) before [] behind in_place needed = absurd needed
-placed history conjuncts start (reference ∷ references) before (rows ∷ lists) behind in_place needed =
+placed : (history : History) (conjuncts : Conditions) (earlier : List (List PeriodRow)) (start : ℕ) (references : List QueryReference) (before lists behind : List (List PeriodRow)) → are_in_place (length before) references ≡ true →
+    SeeNeeded history conjuncts earlier start references lists → NeededIn (before ++ (lists ++ behind)) history conjuncts earlier start references
+placed history conjuncts earlier start [] before lists behind in_place needed = tt
+placed history conjuncts earlier start (reference ∷ references) before [] behind in_place needed = absurd needed
+placed history conjuncts earlier start (reference ∷ references) before (rows ∷ lists) behind in_place needed =
+    let all : List (List PeriodRow) = before ++ rows ∷ (lists ++ behind) in
     let (here, later) = and_parts (reference.place == length before) (are_in_place (length before + 1) references) in_place in
     let at : reference.place ≡ length before = eqb-true reference.place (length before) here in
-    let its : rows_for (before ++ rows ∷ (lists ++ behind)) reference ≡ rows = ap (λ (n : ℕ). slice_index_or (before ++ rows ∷ (lists ++ behind)) n []) at ∙ at_length before rows (lists ++ behind) in
+    let its : rows_for all reference ≡ rows = ap (λ (n : ℕ). slice_index_or all n []) at ∙ at_length before rows (lists ++ behind) in
     let long : length before + 1 ≡ length (before ++ rows ∷ []) = (let sizes = length-append before (rows ∷ []) in omega (arith, sizes)) in
-    let (needs, (width, wide, more)) = needed in (
-      subst (IsNeeded history conjuncts start reference) (sym its) needs,
-      (
-        width,
-        wide,
-        subst (λ (l : List (List PeriodRow)). NeededIn l history conjuncts (start + width) references) (append_assoc before (rows ∷ []) (lists ++ behind))
-            (placed history conjuncts (start + width) references (before ++ rows ∷ []) lists behind (subst (λ (n : ℕ). are_in_place n references ≡ true) long later) more),
-      ),
-    )
+    let (needs, (width, wide, more)) = needed in
+    let rest : NeededIn all history conjuncts (earlier ++ rows ∷ []) (start + width) references =
+    subst (λ (l : List (List PeriodRow)). NeededIn l history conjuncts (earlier ++ rows ∷ []) (start + width) references) (append_assoc before (rows ∷ []) (lists ++ behind))
+    (placed history conjuncts (earlier ++ rows ∷ []) (start + width) references (before ++ rows ∷ []) lists behind (subst (λ (n : ℕ). are_in_place n references ≡ true) long later) more) in
+    subst (λ (l : List PeriodRow). IsNeededAfter history earlier conjuncts start reference l × ((width : ℕ) × SeesWidth history reference width × NeededIn all history conjuncts (earlier ++ l ∷ []) (start + width) references)) (sym its)
+    (needs, (width, wide, rest))
 
 query_placed : (history : History) (query : Query) (before lists behind : List (List PeriodRow)) → are_in_place (length before) (references_of query) ≡ true → IsNeededBy history query lists → QueryNeededIn (before ++ (lists ++ behind)) history query
-query_placed history (one select) before lists behind in_place needed = placed history select.conjuncts 0 select.references before lists behind in_place needed
+query_placed history (one select) before lists behind in_place needed = placed history select.conjuncts [] 0 select.references before lists behind in_place needed
 query_placed history (both operator left right) before lists behind in_place (first, second, split, a, b) =
     let (here, later) = placed_parts (length before) (references_of left) (references_of right) in_place in
     let many = query_as_many history left first a in
@@ -256,23 +363,26 @@ query_placed history (both operator left right) before lists behind in_place (fi
 -- ---- the answer of a query over needed rows
 
 module _ (tables : List (List PeriodRow)) (history : History) (day : ℤ) where
-  -- rows of the lists are seen
-  sound_product : (conjuncts : Conditions) (start : ℕ) (references : List QueryReference) (values : List Value) → NeededIn tables history conjuncts start references → InProduct (VisibleInTables tables day) references values → InProduct (VisibleInHistory history day) references values
-  sound_product conjuncts start [] values needed h = h
-  sound_product conjuncts start (reference ∷ references) values (needs, (width, wide, more)) (first, rest, sees, others, is) =
-      (first, rest, needs.sound day first sees, sound_product conjuncts (start + width) references rest more others, is)
+  -- rows that are there are seen
+  sound_product : (conjuncts : Conditions) (earlier : List (List PeriodRow)) (start : ℕ) (references : List QueryReference) (values : List Value) → NeededIn tables history conjuncts earlier start references →
+      InProduct (VisibleInTables tables day) references values → InProduct (VisibleInHistory history day) references values
+  sound_product conjuncts earlier start [] values needed h = h
+  sound_product conjuncts earlier start (reference ∷ references) values (needs, (width, wide, more)) (first, rest, sees, others, is) =
+      (first, rest, needs.sound day first sees, sound_product conjuncts (earlier ++ rows_for tables reference ∷ []) (start + width) references rest more others, is)
 
-  -- no needed row is missing that is part of a row that meets the conditions
-  whole_product : (conjuncts : Conditions) (start : ℕ) (references : List QueryReference) (before values : List Value) → NeededIn tables history conjuncts start references → length before ≡ start → meets_all conjuncts (before ++ values) ≡ true →
-      InProduct (VisibleInHistory history day) references values → InProduct (VisibleInTables tables day) references values
-  whole_product conjuncts start [] before values needed long met h = h
-  whole_product conjuncts start (reference ∷ references) before values (needs, (width, wide, more)) long met (first, rest, sees, others, is) =
+  -- and none is missing that is part of a row that meets the conditions
+  whole_product : (conjuncts : Conditions) (earlier : List (List PeriodRow)) (start : ℕ) (references : List QueryReference) (before values : List Value) → NeededIn tables history conjuncts earlier start references → length before ≡ start →
+      InRows earlier day before → meets_all conjuncts (before ++ values) ≡ true → InProduct (VisibleInHistory history day) references values → InProduct (VisibleInTables tables day) references values
+  whole_product conjuncts earlier start [] before values needed long stand met h = h
+  whole_product conjuncts earlier start (reference ∷ references) before values (needs, (width, wide, more)) long stand met (first, rest, sees, others, is) =
       let whole : meets_all conjuncts (before ++ (first ++ rest)) ≡ true = subst (λ (v : List Value). meets_all conjuncts (before ++ v) ≡ true) (sym is) met in
-      let longer : length (before ++ first) ≡ start + width = (let sizes = length-append before first in let its = wide day first sees in omega (arith, sizes, its, long)) in (
+      let longer : length (before ++ first) ≡ start + width = (let sizes = length-append before first in let its = wide day first sees in omega (arith, sizes, its, long)) in
+      let here : InSnapshot (rows_for tables reference) day first = needs.complete day before first rest long stand sees whole in (
         first,
         rest,
-        needs.complete day before first rest long sees whole,
-        whole_product conjuncts (start + width) references (before ++ first) rest more longer (subst (λ (v : List Value). meets_all conjuncts v ≡ true) (sym (append_assoc before first rest)) whole) others,
+        here,
+        whole_product conjuncts (earlier ++ rows_for tables reference ∷ []) (start + width) references (before ++ first) rest more longer (in_rows_more earlier (rows_for tables reference) day before first stand here)
+            (subst (λ (v : List Value). meets_all conjuncts v ≡ true) (sym (append_assoc before first rest)) whole) others,
         is,
       )
 
@@ -292,8 +402,8 @@ module _ (tables : List (List PeriodRow)) (history : History) (day : ℤ) where
 
   given_alike : (query : Query) → QueryNeededIn tables history query → (row : List Value) → (InQuery (VisibleInTables tables day) query row ↔ InQuery (VisibleInHistory history day) query row)
   given_alike (one select) needed row = (
-    λ (values, product, met, its). (values, sound_product select.conjuncts 0 select.references values needed product, met, its),
-    λ (values, product, met, its). (values, whole_product select.conjuncts 0 select.references [] values needed refl met product, met, its),
+    λ (values, product, met, its). (values, sound_product select.conjuncts [] 0 select.references values needed product, met, its),
+    λ (values, product, met, its). (values, whole_product select.conjuncts [] 0 select.references [] values needed refl refl met product, met, its),
   )
   given_alike (both operator left right) (a, b) row =
       combined_alike operator (InQuery (VisibleInTables tables day) left) (InQuery (VisibleInTables tables day) right) (InQuery (VisibleInHistory history day) left) (InQuery (VisibleInHistory history day) right)
@@ -309,15 +419,18 @@ needed_alike history query tables fit needed day row =
 
 -- ---- the lists fit
 
-kinds_placed : (history : History) (c : Contents) (tables : List (List PeriodRow)) (conjuncts : Conditions) (start : ℕ) (references : List QueryReference) → AreOfHistory history c → NeededIn tables history conjuncts start references →
+kinds_placed : (history : History) (c : Contents) (tables : List (List PeriodRow)) (conjuncts : Conditions) (earlier : List (List PeriodRow)) (start : ℕ) (references : List QueryReference) → AreOfHistory history c →
+    NeededIn tables history conjuncts earlier start references →
     AllByRecursion (λ (r : QueryReference). IsKnown c.tables r → sees_its_kinds tables r ≡ true) references
-kinds_placed history c tables conjuncts start [] said needed = tt
-kinds_placed history c tables conjuncts start (reference ∷ references) said (needs, (width, wide, more)) =
-    (λ known. needed_kinds history c reference said conjuncts start (rows_for tables reference) known needs, kinds_placed history c tables conjuncts (start + width) references said more)
+kinds_placed history c tables conjuncts earlier start [] said needed = tt
+kinds_placed history c tables conjuncts earlier start (reference ∷ references) said (needs, (width, wide, more)) = (
+  λ known. needed_kinds history c reference said earlier conjuncts start (rows_for tables reference) known needs,
+  kinds_placed history c tables conjuncts (earlier ++ rows_for tables reference ∷ []) (start + width) references said more,
+)
 
 query_kinds : (history : History) (c : Contents) (tables : List (List PeriodRow)) (query : Query) → AreOfHistory history c → QueryNeededIn tables history query →
     AllByRecursion (λ (r : QueryReference). IsKnown c.tables r → sees_its_kinds tables r ≡ true) (references_of query)
-query_kinds history c tables (one select) said needed = kinds_placed history c tables select.conjuncts 0 select.references said needed
+query_kinds history c tables (one select) said needed = kinds_placed history c tables select.conjuncts [] 0 select.references said needed
 query_kinds history c tables (both operator left right) said (a, b) =
     all-append (λ (r : QueryReference). IsKnown c.tables r → sees_its_kinds tables r ≡ true) (references_of left) (references_of right) (query_kinds history c tables left said a) (query_kinds history c tables right said b)
 
@@ -334,19 +447,32 @@ needed_fits history c query tables said known needed =
 
 -- ---- lists that are added
 
-pub added_none : (history : History) (conjuncts : Conditions) (start : ℕ) (references : List QueryReference) (lists : List (List PeriodRow)) → references ≡ [] → AddNeeded (SeeNeeded history conjuncts start references) lists lists
-added_none history conjuncts start references lists none =
-    ([], sym (append-nil lists), subst (λ (rs : List QueryReference). SeeNeeded history conjuncts start rs []) (sym none) tt)
+pub added_none : (history : History) (conjuncts : Conditions) (earlier : List (List PeriodRow)) (start : ℕ) (references : List QueryReference) (lists : List (List PeriodRow)) → references ≡ [] →
+    AddNeeded (SeeNeeded history conjuncts earlier start references) lists lists
+added_none history conjuncts earlier start references lists none =
+    ([], sym (append-nil lists), subst (λ (rs : List QueryReference). SeeNeeded history conjuncts earlier start rs []) (sym none) tt)
 
 -- a reference's list, and after it the lists of the later references
 pub added_more : (history : History) (conjuncts : Conditions) (start next width : ℕ) (references more : List QueryReference) (reference : QueryReference) (rows : List PeriodRow) (lists pushed new : List (List PeriodRow)) → references ≡ reference ∷ more →
-    IsNeeded history conjuncts start reference rows → SeesWidth history reference width → next ≡ start + width → pushed ≡ lists ++ rows ∷ [] → AddNeeded (SeeNeeded history conjuncts next more) pushed new → AddNeeded (SeeNeeded history conjuncts start references) lists new
+    IsNeededAfter history lists conjuncts start reference rows → SeesWidth history reference width → next ≡ start + width → pushed ≡ lists ++ rows ∷ [] → AddNeeded (SeeNeeded history conjuncts pushed next more) pushed new →
+    AddNeeded (SeeNeeded history conjuncts lists start references) lists new
 added_more history conjuncts start next width references more reference rows lists pushed new split needs wide next_is pushed_is (added, made, others) = (
   rows ∷ added,
   made ∙ ap (λ (l : List (List PeriodRow)). l ++ added) pushed_is ∙ append_assoc lists (rows ∷ []) added,
-  subst (λ (rs : List QueryReference). SeeNeeded history conjuncts start rs (rows ∷ added)) (sym split)
-      (needs, (width, wide, subst (λ (n : ℕ). SeeNeeded history conjuncts n more added) next_is others)),
+  subst (λ (rs : List QueryReference). SeeNeeded history conjuncts lists start rs (rows ∷ added)) (sym split) (
+    needs,
+    (
+      width,
+      wide,
+      subst (λ (l : List (List PeriodRow)). SeeNeeded history conjuncts l (start + width) more added) pushed_is (subst (λ (n : ℕ). SeeNeeded history conjuncts pushed n more added) next_is others),
+    ),
+  ),
 )
+
+-- lists of their own that come after others
+pub added_behind : (AreNeeded : List (List PeriodRow) → Type 0) (lists none seen new : List (List PeriodRow)) → none ≡ [] → AddNeeded AreNeeded none seen → new ≡ lists ++ seen → AddNeeded AreNeeded lists new
+added_behind AreNeeded lists none seen new empty (added, made, needed) is =
+    (added, is ∙ ap (λ (l : List (List PeriodRow)). lists ++ l) (made ∙ ap (λ (l : List (List PeriodRow)). l ++ added) empty), needed)
 
 pub added_both : (history : History) (operator : SetOperator) (left right : Query) (lists middle new : List (List PeriodRow)) → AddNeeded (IsNeededBy history left) lists middle → AddNeeded (IsNeededBy history right) middle new →
     AddNeeded (IsNeededBy history (both operator left right)) lists new

@@ -1,7 +1,7 @@
 -- The rows that a query needs of those that its table references see: enough that it gives the
 -- same.
-use Rattle.std.specs.Prelude.{◌≡◌, ◌++◌, ◌+◌, ℕ, ℤ, Bool, Contains, List, [], ◌∷◌, length, map}
-use Rattle.std.specs.Prelude.{true}
+use Rattle.std.specs.Prelude.{◌≡◌, ◌++◌, ◌+◌, ℕ, ℤ, Bool, Contains, IsTrue, List, [], ◌∷◌, length}
+use Rattle.std.specs.Prelude.{map, true}
 use Rattle.std.specs.Option.{option_map_or}
 use Rattle.period_core.specs.declared.row.PeriodRow.{PeriodRow}
 use Rattle.period_core.specs.declared.value.Value.{Value}
@@ -14,9 +14,10 @@ use Rattle.catalog_core.specs.declared.query.resolved.QueryReference.{QueryRefer
 use Rattle.catalog_core.specs.query.Queries.{Query, both, one}
 use Rattle.catalog_core.specs.table.TableWords.{table_of}
 use Rattle.history_model.specs.Histories.{History}
-use Rattle.history_model.specs.OrdinaryQuery.{VisibleInHistory}
+use Rattle.history_model.specs.OrdinaryQuery.{VisibleInHistory, meets_all}
 use Rattle.history_model.specs.Versions.{row_of}
 use Rattle.sequenced_ops.specs.Planning.{IsPruned}
+use Rattle.temporal_model.specs.Snapshot.{InSnapshot}
 
 -- the rows in memory whose keys are in the range, of the table of a number; of a number without a
 -- table none
@@ -48,22 +49,54 @@ abbrev pub IsNeeded
 IsNeeded history conjuncts start reference =
     IsPruned conjuncts start (λ day. VisibleInHistory history day reference)
 
--- each of the references sees what it needs, one after the other in the combined row
+-- the values are those of one row of each of the lists on the day, one after the other
+abbrev pub InRows : List (List PeriodRow) → ℤ → List Value → Type 0
+InRows [] day values = values ≡ []
+InRows (rows ∷ lists) day values =
+    (first : List Value) × (rest : List Value)
+    × InSnapshot rows day first × InRows lists day rest × (first ++ rest ≡ values)
+
+-- the values end with those of one of these rows on the day
+abbrev pub EndInRow : List PeriodRow → ℤ → List Value → Type 0
+EndInRow rows day values =
+    (first : List Value) × (last : List Value)
+    × InSnapshot rows day last × (first ++ last ≡ values)
+
+-- the rows are of the set, and lack none that can be these values of a row that meets the
+-- conditions and in which such values stand before them
+pub record IsPrunedAfter (StandBefore : ℤ → List Value → Type 0)
+    (conjuncts : List (Tree CompareValues)) (start : ℕ) (InSet : ℤ → List Value → Type 0)
+    (rows : List PeriodRow) : Type 0 where
+  pub sound : (day : ℤ) (values : List Value) → InSnapshot rows day values → InSet day values
+  pub complete : (day : ℤ) (first values rest : List Value) → length first ≡ start
+      → StandBefore day first → InSet day values
+      → IsTrue (meets_all conjuncts (first ++ (values ++ rest))) → InSnapshot rows day values
+
+-- the rows are of those that the reference sees in the history, and lack none that is part of a
+-- combined row that meets the conditions, and that begins with a row of each of the earlier lists
+abbrev pub IsNeededAfter
+    : History → List (List PeriodRow) → List (Tree CompareValues) → ℕ → QueryReference
+    → List PeriodRow → Type 0
+IsNeededAfter history earlier conjuncts start reference =
+    IsPrunedAfter (InRows earlier) conjuncts start (λ day. VisibleInHistory history day reference)
+
+-- each of the references sees what it needs after the earlier lists, one after the other in the
+-- combined row
 abbrev pub SeeNeeded
-    : History → List (Tree CompareValues) → ℕ → List QueryReference → List (List PeriodRow)
-    → Type 0
-SeeNeeded history conjuncts start [] [] = Unit {0}
-SeeNeeded history conjuncts start [] (rows ∷ lists) = ⊥
-SeeNeeded history conjuncts start (reference ∷ references) [] = ⊥
-SeeNeeded history conjuncts start (reference ∷ references) (rows ∷ lists) =
-    IsNeeded history conjuncts start reference rows
+    : History → List (Tree CompareValues) → List (List PeriodRow) → ℕ → List QueryReference
+    → List (List PeriodRow) → Type 0
+SeeNeeded history conjuncts earlier start [] [] = Unit {0}
+SeeNeeded history conjuncts earlier start [] (rows ∷ lists) = ⊥
+SeeNeeded history conjuncts earlier start (reference ∷ references) [] = ⊥
+SeeNeeded history conjuncts earlier start (reference ∷ references) (rows ∷ lists) =
+    IsNeededAfter history earlier conjuncts start reference rows
     × ((width : ℕ) × SeesWidth history reference width
-    × SeeNeeded history conjuncts (start + width) references lists)
+    × SeeNeeded history conjuncts (earlier ++ rows ∷ []) (start + width) references lists)
 
 -- each select of a query sees what it needs
 abbrev pub IsNeededBy : History → Query → List (List PeriodRow) → Type 0
 IsNeededBy history (one select) lists =
-    SeeNeeded history select.conjuncts 0 select.references lists
+    SeeNeeded history select.conjuncts [] 0 select.references lists
 IsNeededBy history (both operator left right) lists =
     (first : List (List PeriodRow)) × (second : List (List PeriodRow))
     × (lists ≡ first ++ second) × IsNeededBy history left first × IsNeededBy history right second

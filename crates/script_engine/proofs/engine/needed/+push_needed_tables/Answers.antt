@@ -1,28 +1,33 @@
-use Rattle.std.proofs.Common.{◌≡◌, ◌∙◌, List, ap, ap₂, subst, sym}
+use Rattle.std.proofs.Common.{◌≡◌, ◌∙◌, [], List, ap, ap₂, subst, sym}
 use Rattle.std.specs.Prelude.{OnOk, Result, Ok, Err}
 use Rattle.sql_statements.specs.declared.tree.Tree.{Tree}
 use Rattle.catalog_core.specs.declared.condition.CompareValues.{CompareValues}
 use Rattle.catalog_core.specs.declared.query.resolved.Query as code
 use Rattle.catalog_core.specs.declared.query.resolved.QueryReference.{QueryReference}
 use Rattle.catalog_core.specs.query.Queries.{Query, both, plain_query}
+use Rattle.period_core.specs.declared.row.PeriodRow.{PeriodRow}
 use Rattle.script_engine.specs.engine.Needed.{AddNeeded, IsNeededBy, SeeNeeded}
-use Rattle.script_engine.proofs.Needed.{added_both}
+use Rattle.script_engine.proofs.Needed.{added_behind, added_both}
 use Rattle.script_engine.proofs.engine.needed.+push_needed_tables.Goals as goal
 
 on_ok : {X E : Type 0} (r : Result X E) (P Q : Type 0) → (P → Q) → OnOk r P → OnOk r Q
 on_ok (Ok x) P Q more h = more h
 on_ok (Err e) P Q more h = h
 
-pub returns-in-Select : goal.returns-in-Select
-returns-in-Select t c history same kept =
+pub returns-in_ok-append-in-Select : goal.returns-in_ok-append-in-Select
+returns-in_ok-append-in-Select t c history same kept =
     let old = c.args.lists.now.items in
-    let new = c.push_needed_by_each.new.lists.items in
+    let seen = c.push_needed_by_each.new.lists.items in
+    let new = c.append.new.self.items in
     let select = c.in-Select.select in
-    let its : OnOk c.push_needed_by_each.result (AddNeeded (SeeNeeded history select.conjuncts 0 select.references) old new) =
-    subst (λ (cs : List (Tree CompareValues)). OnOk c.push_needed_by_each.result (AddNeeded (SeeNeeded history cs 0 select.references) old new)) c.as_slice-conjuncts.ensures
-    (subst (λ (rs : List QueryReference). OnOk c.push_needed_by_each.result (AddNeeded (SeeNeeded history c.as_slice-conjuncts.result.now 0 rs) old new)) c.as_slice-references.ensures.value
-    (c.push_needed_by_each.ensures history same kept)) in
-    subst (λ (q : code.Query). OnOk c.push_needed_by_each.result (AddNeeded (IsNeededBy history (plain_query q)) old new)) (sym c.in-Select.is) its
+    let none : List (List PeriodRow) = c.new-seen.result.items in
+    let given : AddNeeded (SeeNeeded history c.as_slice-conjuncts.result.now none 0 c.as_slice-references.result.now) none seen = c.in_ok-push_needed_by_each-in-Select.ensures history same kept in
+    let its : AddNeeded (SeeNeeded history select.conjuncts [] 0 select.references) none seen =
+    subst (λ (cs : List (Tree CompareValues)). AddNeeded (SeeNeeded history cs [] 0 select.references) none seen) c.as_slice-conjuncts.ensures
+    (subst (λ (rs : List QueryReference). AddNeeded (SeeNeeded history c.as_slice-conjuncts.result.now [] 0 rs) none seen) c.as_slice-references.ensures.value
+    (subst (λ (earlier : List (List PeriodRow)). AddNeeded (SeeNeeded history c.as_slice-conjuncts.result.now earlier 0 c.as_slice-references.result.now) none seen) c.new-seen.ensures.items given)) in
+    subst (λ (q : code.Query). AddNeeded (IsNeededBy history (plain_query q)) old new) (sym c.in-Select.is)
+    (added_behind (SeeNeeded history select.conjuncts [] 0 select.references) old none seen new c.new-seen.ensures.items its c.in_ok-append-in-Select.ensures.items)
 
 pub returns-in_ok-push_needed_tables-in-Combined : goal.returns-in_ok-push_needed_tables-in-Combined
 returns-in_ok-push_needed_tables-in-Combined t c history known kept =
