@@ -101,7 +101,7 @@ PARTS = [
     # Stores in files, and memory, disks and writers that fail.
     Part('tests/stores', 3),
     Part('tests/store_program', 15),
-    Part('tests/failures', 650, processors=2, needs=(COMPILER,), **BUILDS),
+    Part('tests/failures', 850, processors=2, needs=(COMPILER,), **BUILDS),
     # The public calls of the libraries, and a program that embeds the engine.
     Part('tests/libraries', 180, **BUILDS),
     Part('tests/embedding', 150, **BUILDS),

@@ -52,6 +52,7 @@ from bitemporal_tools.stores.asking import scratch
 
 # A store that a script leaves may have so many times its bytes.
 GROWTH = 4
+NOT_KNOWN = 'bitemporal: how many versions changes replaced or deleted at their moment is not known'
 
 
 def printed(called: str, words: Sequence[str], given: bytes) -> tuple[int, bytes]:
@@ -79,16 +80,19 @@ def tables_of(store: str) -> Catalog:
 def told_of_replaced(script: bytes) -> list[str]:
     """The lines of `bitemporal_file` about versions that a script's changes replaced, over a store
     that is thrown away."""
-    with scratch(GROWTH * len(script)) as folder:
-        file = pathlib.Path(folder, 'script.sql')
-        file.write_bytes(script)
-        run = subprocess.run(['bitemporal_file', os.path.join(folder, 'store'), file],
-                             executable=program.path('bitemporal_file'), check=False,
-                             stdout=subprocess.DEVNULL, stderr=subprocess.PIPE)
-    lines = [line.partition(': ')[2] for line in run.stderr.decode('utf-8').splitlines()]
-    if run.returncode not in (0, 1):
-        lines[-1:] = [f'how many versions changes replaced is not known: {lines[-1]}']
-    return [f'bitemporal: {line}' for line in lines]
+    try:
+        with scratch(GROWTH * len(script)) as folder:
+            file = pathlib.Path(folder, 'script.sql')
+            file.write_bytes(script)
+            run = subprocess.run(['bitemporal_file', os.path.join(folder, 'store'), file],
+                                 executable=program.path('bitemporal_file'), check=False,
+                                 stdout=subprocess.DEVNULL, stderr=subprocess.PIPE)
+    except OSError as error:
+        return [f'{NOT_KNOWN}: {error.strerror}']
+    told = [line.partition(': ')[2] for line in run.stderr.decode('utf-8').splitlines()]
+    if run.returncode in (0, 1):
+        return [f'bitemporal: {line}' for line in told]
+    return [f'{NOT_KNOWN}: {told[-1] if told else f"status {run.returncode}"}']
 
 
 class Run:
