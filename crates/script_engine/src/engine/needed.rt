@@ -1,7 +1,7 @@
 //! The rows that the table references of a query have to see: of the current rows in memory those
 //! that can be part of a combined row that meets the conditions of their select. So a query whose
-//! conditions leave a range of keys looks at the rows with a key in that range alone, and one that joins
-//! a few rows with a table by its key looks at the rows of their keys.
+//! conditions leave a range of keys looks at the rows with a key in that range alone. One that
+//! joins a few rows with a table by its key looks at the rows of their keys.
 
 ghost use Rattle.std.specs.Prelude.{◌≡◌, ◌++◌, IfErr, IfOk, IfSome, List, OnOk, Some, length, map};
 ghost use Rattle.std.specs.Prelude.{Contains, min};
@@ -179,7 +179,7 @@ fn needed_current(
 /// The most rows after each of which the rows of the next reference are looked up.
 const FEW: usize = 16;
 
-/// How many of the values at these positions of a key the range fixes, from the first on.
+/// The number of values at these positions of a key that the range fixes, from the first on.
 fn fixed_values(range: &KeyRange, positions: &[usize]) -> usize
     ensures { result ≡ min (length positions.now) (length range.now.leading.items) }
 {
