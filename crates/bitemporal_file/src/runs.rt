@@ -36,7 +36,8 @@ fn run_script<
         × AreOfReaders (R.remaining input.old.inner ∷ []) runs
         × AreRun runs result reporter.new.fault
         × Ends W.contents E.contents K.text K.status_of K.forgotten_of
-        (R.remaining input.old.inner ∷ []) input.new.has_failed reporter.old runs result reporter.new
+        (R.remaining input.old.inner ∷ []) input.new.has_failed
+        reporter.old runs result reporter.new
         × LeadsTo K.is_step_over engine.old runs engine.new
         × (IsUsable S.Store engine.new.connection
         → (history : History) → EngineRepresents S.Store history engine.old
@@ -77,7 +78,8 @@ fn run_named<
         × AreOfReaders (Q.content scripts.old.scripts.now name.now ∷ []) runs
         × AreRun runs result reporter.new.fault
         × Ends W.contents E.contents K.text K.status_of K.forgotten_of
-        (Q.content scripts.old.scripts.now name.now ∷ []) scripts.new.has_failed reporter.old runs result reporter.new
+        (Q.content scripts.old.scripts.now name.now ∷ []) scripts.new.has_failed
+        reporter.old runs result reporter.new
         × LeadsTo K.is_step_over engine.old runs engine.new
         × (IsUsable S.Store engine.new.connection
         → (history : History) → EngineRepresents S.Store history engine.old
