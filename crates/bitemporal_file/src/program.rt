@@ -162,8 +162,11 @@ pub fn run_file_program<S: Start + Copy, Q: Scripts + Places, R: Read, W: Write,
         × IsShown ProgramName.BitemporalFile fault result
         (W.contents report.old.out) (W.contents report.new.out) report.new.notes.err.has_failed
         (E.contents report.old.notes.err.inner) (E.contents report.new.notes.err.inner)
-        × (stores.new ≡ stores.old) × (input.new ≡ input.old)
-        × (report.new ≡ record report.old { out = report.new.out; notes = report.new.notes }))
+        × (stores.new ≡ stores.old) × (scripts.new ≡ scripts.old) × (input.new ≡ input.old)
+        × (report.new ≡ record report.old {
+          out = report.new.out;
+          notes = record report.old.notes { err = report.new.notes.err };
+        }))
         ⊎ ((asked : Request) × IsAskedBy (map string_bytes words.now) asked
         × (ended : Result ℕ RunFault) × (left : Reporter W E)
         × (report.new ≡ record left { notes = report.new.notes })
