@@ -165,13 +165,15 @@ class Stores(unittest.TestCase):
         return str(path)
 
     def run_script(self, script: str) -> list[list[str]]:
-        """Runs a script over the store. Nothing of it is refused."""
+        """Runs a script over the store. Nothing of it is refused. (Two changes of one row at one
+        moment replace what the first leaves of it, which is told.)"""
         done = subprocess.run(
             ['bitemporal_file', self.store, self.write('script.sql', script)], check=False,
             executable=support.program.PROGRAM, stdout=subprocess.PIPE, stderr=subprocess.PIPE)
         found = list(records(done.stdout.decode('utf-8')))
         refused = [fields for fields in found if fields[0] == 'refused']
-        self.assertEqual((done.returncode, refused, done.stderr), (0, [], b''), script)
+        told = [line for line in done.stderr.splitlines() if b': versions ' not in line]
+        self.assertEqual((done.returncode, refused, told), (0, [], []), script)
         return found
 
 
