@@ -196,7 +196,7 @@ module _ (width : ℕ) (positions : List ℕ) (range : KeyRange) (versions : Lis
       in_snapshot (map row_of ranged) day values
       (row, subst (Contains (map row_of ranged)) made (in_map row_of ranged v (in_filter (has_key_in positions range) versions v its its_key)), same, on)
 
--- the versions of the keys that the conditions leave
+-- versions of the keys that the conditions leave
 module _ (conjuncts : Conditions) (start width : ℕ) (positions : List ℕ) (range : KeyRange) (versions : List VersionRow) (rows : List PeriodRow) where
   pub ranged_needed : IsRangeWithin conjuncts start width positions range → ((v : VersionRow) → Contains versions v → length v.values ≡ width) → IsPruned conjuncts start (InSnapshot (map row_of (ranged width positions range versions))) rows →
       IsPruned conjuncts start (InSnapshot (map row_of versions)) rows

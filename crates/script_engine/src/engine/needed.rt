@@ -179,7 +179,11 @@ fn needed_current(
 /// The most rows after each of which the rows of the next reference are looked up.
 const FEW: usize = 16;
 
-/// The number of values at these positions of a key that the range fixes, from the first on.
+/// The most rows that are looked up before one row more of these is looked at. Several of these can
+/// have the same key, so that without it more rows might be copied than the table has.
+const MANY: usize = 4_096;
+
+/// The number of values at these positions of a key, from the first on, that the range fixes.
 fn fixed_values(range: &KeyRange, positions: &[usize]) -> usize
     ensures { result ≡ min (length positions.now) (length range.now.leading.items) }
 {
@@ -205,8 +209,8 @@ fn once_each(alloc: Global, rows: Vec<PeriodRow>, times: usize) -> Result<Vec<Pe
 
 /// The rows of a table that are needed in the combined rows in which one of the rows `previous`
 /// stands right before theirs: those of the keys in the range that the conditions leave after one
-/// of these. None if these are many, or the conditions fix as much of a key without one of them.
-/// The rows of the table have `width` values.
+/// of these. None if these or those are many, or the conditions fix as much of a key without one of
+/// these. The rows of the table have `width` values.
 fn needed_after(
     alloc: Global,
     conjuncts: &[Cond],
@@ -228,6 +232,9 @@ fn needed_after(
     let fixed = fixed_values(&alone, positions);
     let mut needed = Vec::new(alloc);
     for row in previous {
+        if needed.len() > MANY {
+            return Ok(None);
+        }
         let known = row.values.as_slice();
         let range = range_of_key_after(alloc, conjuncts, known, start, width, positions)?;
         if fixed_values(&range, positions) <= fixed {
