@@ -3,8 +3,8 @@
 It follows docs/PROFILE.md, rule by rule and without care for speed. It judges the statement that is
 generated, not its text: it has no parser.
 
-A table is kept twice. Its states are kept by moment and day: for each day the rows that hold on it,
-over pieces of time in which no day differs from the next. A change acts on each day by itself, and
+A table is stored twice. Its states are there by moment and day: for each day the rows that hold on
+it, over pieces of time in which no day differs from the next. A change acts on each day by itself, and
 sequenced queries, keys and references are judged day by day. Its versions, rows with a period and
 with the moments from which and to which they are recorded, are what stored queries show.
 """
@@ -57,7 +57,7 @@ REFUSALS = {
     27: 'PeriodColumn', 28: 'BadDefinition', 29: 'ColumnCount', 30: 'TypeMismatch',
     31: 'TextTooLong', 40: 'MomentBack', 41: 'EmptyPeriod', 42: 'KeyOverlap',
     43: 'PeriodReference', 62: 'Store'}
-# A moment is kept as reports print it: nineteen characters, and where its fraction of a second is
+# A moment is stored as reports print it: nineteen characters, and where its fraction of a second is
 # not zero, a point and six digits. So moments compare as their texts do.
 FOREVER = '9999-12-31 23:59:59.999999'
 # Moments in order, and texts of none. FOREVER is none of a clock, nor of AS OF.
@@ -505,7 +505,7 @@ class Model:
             count += 1
             if since != self.clock:
                 versions.append([values, start, end, since, self.clock])
-            else:  # it would end as it begins, and isn't kept
+            else:  # it would end as it begins, and doesn't stay
                 replaced += 1
             pieces = [(values, start, begin), (values, stop, end)]
             pieces += [(new, max(start, begin), min(end, stop)) for new in made(values)]

@@ -13,7 +13,7 @@ SETTINGS = {
     'transaction_isolation': 'read committed', 'default_transaction_read_only': 'off',
     'transaction_read_only': 'off', 'search_path': 'public', 'max_identifier_length': '63',
     'application_name': '', 'bitemporal.witness': 'on'}
-# The settings that a client is told at the start, by the names that PostgreSQL gives them there.
+# The settings that a client gets at the start, by the names that PostgreSQL gives them there.
 TOLD = {'server_version': 'server_version', 'server_encoding': 'server_encoding',
         'client_encoding': 'client_encoding', 'datestyle': 'DateStyle', 'timezone': 'TimeZone',
         'integer_datetimes': 'integer_datetimes', 'intervalstyle': 'IntervalStyle',

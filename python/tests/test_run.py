@@ -161,7 +161,7 @@ class Run(Case):
                    told(TWO.format('', '')))
 
     def test_moments_of_stores(self) -> None:
-        """Versions that changes to a store replace are told in the words of the program."""
+        """Versions that changes to a store replace are noted in the words of the program."""
         def told(store: str, script: str, *words: str) -> str:
             return run(['--store', self.folder / store, *words], script.encode())[2].decode()
 

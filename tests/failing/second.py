@@ -183,7 +183,7 @@ def trial(name, library, folder, pool):
 
 
 def trials(folder, pool):
-    """Counts the sessions that passed and those that failed; each failure is told."""
+    """Counts the sessions that passed and those that failed; each failure is printed."""
     library = folder / 'refuse.so'
     subprocess.run(['cc', '-shared', '-fPIC', '-O1', '-o', library, LIBRARY, '-ldl'], check=True)
     program.build()

@@ -62,14 +62,14 @@ GetsNote has_failed old new note =
 
 -- ---- the notes of statements, and of a whole run
 
--- after some statements: the first that forgets versions is told, as soon as it is run
+-- after some statements: the first that forgets versions is noted, as soon as it is run
 abbrev pub TellsFirst : {N : Type 0} → (N → Option (List ℕ)) → Notes N → Notes N → Type 0
 TellsFirst errors old new =
     ((new.tally.first ≡ old.tally.first) × (new.err ≡ old.err))
     ⊎ ((first : Forgetting) × (old.tally.first ≡ None) × (new.tally.first ≡ Some first)
     × GetsNote new.err.has_failed (errors old.err.inner) (errors new.err.inner) (First first))
 
--- at the end of a run: the sum is told, if there is one
+-- at the end of a run: the sum is noted, if there is one
 abbrev pub TellsSum : {N : Type 0} → (N → Option (List ℕ)) → Notes N → Notes N → Type 0
 TellsSum errors old new =
     MatchOption old.tally.first (new ≡ old) (λ first.

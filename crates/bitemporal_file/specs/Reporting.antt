@@ -57,7 +57,7 @@ pub record ReceivesResult {W N K : Type 0} (contents : W → Option (List ℕ))
   -- the greatest status so far
   pub worst : new.worst ≡ max old.worst (status kept)
   pub low : old.worst ≤ 3 → new.worst ≤ 3
-  -- the versions that it forgets are counted, and if they are the first standard error is told
+  -- the versions that it forgets are counted, and if they are the first they are noted
   pub tally : new.notes.tally ≡ counted old.notes.tally old.next (forgotten kept)
   pub told : TellsFirst errors old.notes new.notes
   -- if there is no fault, its records are written, numbered on, and nothing else

@@ -101,7 +101,7 @@ pub record Ends {W N K : Type 0} (contents : W → Option (List ℕ)) (errors : 
   -- the greatest status of all statements
   pub worst : new.worst ≡ greatest_from status old.worst (results_of runs)
   pub low : old.worst ≤ 3 → new.worst ≤ 3
-  -- the versions that all forget are counted, and of the first standard error is told
+  -- the versions that all forget are counted, and the first are noted on standard error
   pub tally : new.notes.tally ≡ tally_after forgotten old.notes.tally runs
   pub told : TellsFirst errors old.notes new.notes
   -- the output got the reports, and nothing else, unless the report was at fault

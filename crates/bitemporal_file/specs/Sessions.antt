@@ -164,7 +164,7 @@ pub record EndsWith {W N K : Type 0} (contents : W → Option (List ℕ))
   pub unused : new.is_unused ≡ true → (old.is_unused ≡ true) × (all_results turns ≡ [])
   pub worst : new.worst ≡ greatest_from status old.worst (all_results turns)
   pub low : old.worst ≤ 3 → new.worst ≤ 3
-  -- the versions that all forget are counted, and of the first standard error is told
+  -- the versions that all forget are counted, and the first are noted on standard error
   pub tally : new.notes.tally ≡ tally_from forgotten old.next old.notes.tally (all_results turns)
   pub told : TellsFirst errors old.notes new.notes
   -- the output got the reports, and nothing else, unless the report was at fault

@@ -141,7 +141,7 @@ module _ {S K W N : Type 0} (g : Ghosts S) (made : List ℕ → List ℕ → Typ
       (timed_refusal refused) contents errors (λ number timed. text number timed.kept)
       (λ timed. status timed.kept) (λ timed. forgotten timed.kept)
 
--- a run that tells of the versions that statements forget, of what is kept beside their number
+-- a run that notes the versions that statements forget, by the result beside each number
 module _ {S K W N : Type 0} (g : Ghosts S) (made : List ℕ → List ℕ → Type 0)
     (IsStep : History → List Lexeme → K → History → Type 0)
     (IsStepOver : EngineState S → List Lexeme → K → EngineState S → Type 0)

@@ -121,7 +121,7 @@ fn tell<E: Write>(alloc: Global, err: &mut Tracked<E>, note: Note)
     }
 }
 
-/// Standard error, and what it is told of versions that statements forgot.
+/// Standard error, and its notes of versions that statements forgot.
 #[derive(Drop)]
 pub(crate) struct Notes<E> {
     pub(crate) err: Tracked<E>,
@@ -129,7 +129,7 @@ pub(crate) struct Notes<E> {
 }
 
 impl<E> Notes<E> {
-    /// Nothing is told yet.
+    /// No note is written yet.
     pub(crate) fn new(err: Tracked<E>) -> Notes<E>
         ensures err { result.err ≡ err }
         ensures none { result.tally ≡ no_tally }
@@ -143,7 +143,7 @@ impl<E> Notes<E> {
 }
 
 impl<E: Write> Notes<E> {
-    /// Counts the versions that the statement of a number forgot, and tells them if no statement
+    /// Counts the versions that the statement of a number forgot, and notes them if no statement
     /// before it forgot any.
     pub(crate) fn add(&mut self, alloc: Global, statement: u64, versions: u64)
         ensures tally { self.new.tally ≡ counted self.old.tally statement versions }

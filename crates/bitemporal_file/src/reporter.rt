@@ -165,7 +165,7 @@ impl<K: Reported> Reported for Timed<K> {
     }
 }
 
-/// A report that is written as the run goes, with what standard error is told meanwhile, and what
+/// A report that is written as the run goes, with its notes on standard error meanwhile, and what
 /// the run has come to.
 #[derive(Drop)]
 pub struct Reporter<W, E> {
@@ -181,7 +181,7 @@ pub struct Reporter<W, E> {
     pub(crate) fault: Option<RunFault>,
     /// No result was received yet.
     pub(crate) is_unused: bool,
-    /// Standard error, and what is told there.
+    /// Standard error, and its notes.
     pub(crate) notes: Notes<E>,
 }
 

@@ -1,4 +1,4 @@
--- The last of rows in order, by which the place of one behind all others is known.
+-- The last of rows in order, by which the place of one after it is known.
 use Rattle.std.specs.Prelude.{◌≡◌, ◌++◌, List, [], ◌∷◌}
 use Rattle.std.specs.declared.cmp.Ordering.{Ordering}
 use Rattle.std.specs.declared.cmp.Ordering.TheVariants.{Less}

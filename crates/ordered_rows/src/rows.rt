@@ -28,7 +28,7 @@ use std::alloc::{AllocError, Global};
 use std::marker::Model;
 
 /// Rows in order, which contracts see as their list. The abbreviated key of the last row is kept
-/// while rows are added behind all others, so that the place of the next one is known by it.
+/// while rows are added after the last one, so that the place of the next one is known by it.
 #[derive(Drop)]
 pub struct OrderedRows {
     alloc: Global,
@@ -212,7 +212,7 @@ impl OrderedRows {
         Ok(true)
     }
 
-    // Whether the key of the last row tells that this is below the target.
+    // Whether the key of the last row shows that this is below the target.
     fn ends_below(&self, target: Target<'_>) -> bool
         ensures { IsTrue result → EndBelow (side target.entry) self.now }
     {
@@ -222,7 +222,7 @@ impl OrderedRows {
         }
     }
 
-    // Whether the key of the last row tells that this is before the probe's key.
+    // Whether the key of the last row shows that this is before the probe's key.
     fn ends_before(&self, probe: &Probe<'_>) -> bool
         ensures { IsTrue result
             → EndBelow (λ r. prefix_cmp probe.now.order r probe.now.row.now) self.now }

@@ -139,7 +139,7 @@ IsRangeWithin conditions start width positions range =
     → IsTrue (meets_all conditions (first ++ (values ++ rest)))
     → is_in_range range (values_at positions values) ≡ true
 
--- ---- combined rows in which known values stand right before the row's own
+-- ---- combined rows in which known values come right before the row's own
 
 -- in each such combined row that meets the conditions, the row has this value at the position
 abbrev pub IsValueAfter

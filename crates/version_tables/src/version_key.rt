@@ -1,4 +1,4 @@
-//! Rows of bt_version by the key that tells versions apart, and as they are added.
+//! Rows of bt_version by the key that distinguishes versions, and as they are added.
 
 /// The key that tells apart the versions of a table that begin at one moment: their values' bytes,
 /// and the number of the first day of the period.

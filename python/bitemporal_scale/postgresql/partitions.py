@@ -1,4 +1,4 @@
-"""Sequenced queries that can be answered node by node, if tables are kept in parts.
+"""Sequenced queries that can be answered node by node, if tables are in parts.
 
 Each table is on every node as a whole, or in parts: then a row is on the node that its columns of
 distribution choose, by one function of their values for all tables. A query splits if the

@@ -89,7 +89,7 @@ class RowWriter:
         """The rows of each INSERT, as many as a statement may have."""
         texts, signs = self.texts_of(columns)
         head, *between, tail = self.form.split('%s')
-        # The signs behind each text of a row, each after an empty place for that text.
+        # The signs after each text of a row, each after an empty place for that text.
         behind = [sign for after in [*between, f'{tail}{BETWEEN_ROWS}{head}']
                   for sign in ('', after)]
         for first, end in self.runs(texts, signs):
