@@ -3,10 +3,10 @@
 It follows docs/PROFILE.md, rule by rule and without care for speed. It judges the statement that is
 generated, not its text: it has no parser.
 
-A table is stored twice. Its states are there by moment and day: for each day the rows that hold on
-it, over pieces of time in which no day differs from the next. A change acts on each day by itself, and
-sequenced queries, keys and references are judged day by day. Its versions, rows with a period and
-with the moments from which and to which they are recorded, are what stored queries show.
+A table is stored twice. Its states are stored by moment and day: for each day the rows that hold on
+it, over pieces of time in which no day differs from the next. A change acts on each day by itself,
+and sequenced queries, keys and references are judged day by day. Its versions, rows with a period
+and with the moments from which and to which they are recorded, are what stored queries show.
 """
 import collections
 import datetime

@@ -142,7 +142,7 @@ BAD = [
     ('a row with an ended parent', row(WRK, [7, 2], '2024-01-01', '2024-02-01')
      + row(EMP, [2, 3], FIRST, LAST, **ENDED)),
 ]
-# A constraint that forbids the moments of form 2, and not those of form 1.
+# A constraint that forbids the moments of form 2, and not form 1's.
 FORBIDS_THE_MOVE = (
     'DROP TABLE bt_version; CREATE TABLE bt_version (tab INTEGER NOT NULL, vals BLOB NOT NULL,'
     ' s INTEGER NOT NULL, e INTEGER NOT NULL, ss INTEGER NOT NULL CHECK (ss < 1000000000000),'

@@ -89,7 +89,7 @@ class Session:
 
     def answer(self, words: Sequence[str], texts: Sequence[str],
                is_known: bool) -> Optional[Answered]:
-        """The function that answers a statement of these words; None if it is for the engine."""
+        """The function that answers a statement with these words; None if it is for the engine."""
         first, second = ([*words, '', ''])[:2]
         if first in ('COMMIT', 'END', 'ROLLBACK', 'ABORT') and second != 'TO':
             tag = 'COMMIT' if first in ('COMMIT', 'END') and self.block != 'E' else 'ROLLBACK'

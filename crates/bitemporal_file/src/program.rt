@@ -134,7 +134,7 @@ fn run_asked<S: Start + Copy, Q: Scripts + Places, R: Read, W: Write, E: Write>(
 /// session of `input`, and reports each statement as soon as it is done; or lists the store's
 /// tables, or verifies the store; or shows help or the version. Gives the exit status: 0 to 3 as
 /// `bitemporal` does, for all scripts together. With 2 standard error gets a text that says why.
-/// Before that it gets a note of versions that changes ended at the very moment at which they began:
+/// Before that it gets notes of versions that changes ended at the very moment at which they began:
 /// of the first statement that did so as soon as it is run, and at the end how many they are.
 pub fn run_file_program<S: Start + Copy, Q: Scripts + Places, R: Read, W: Write, E: Write>(
     alloc: Global,

@@ -57,7 +57,7 @@ abbrev pub resolved_assignment : TableDef → written.Assignment → Option Assi
 resolved_assignment t a =
     option_map (λ n. record { position = n; value = a.value }) (value_position t a.column)
 
--- a WHERE and another: both are absent, or each test is the one that stands for it
+-- a WHERE and another: both are absent, or each test is its form with positions
 abbrev pub ReplacesWhere
     : {T S R : Type 0} → (T → R) → (S → R) → Option (Condition T) → Option (Tree S) → Type 0
 ReplacesWhere f g None None = Unit {0}

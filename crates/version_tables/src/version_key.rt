@@ -1,6 +1,6 @@
 //! Rows of bt_version by the key that distinguishes versions, and as they are added.
 
-/// The key that tells apart the versions of a table that begin at one moment: their values' bytes,
+/// The key that distinguishes versions of a table that begin at one moment: their values' bytes,
 /// and the number of the first day of the period.
 #[derive(PartialEq, Eq, PartialOrd, Ord, Debug, Drop)]
 pub struct VersionKey {

@@ -17,7 +17,7 @@ Order = tuple[list[Union[int, str]], str]
 
 
 def ordered(kinds: list[Optional[str]]) -> Callable[[list[str]], Order]:
-    """The order of rows of values of these types: by the values, then by first day. Texts go by
+    """The order of rows of values of the given types: by the values, then by first day. Texts go by
     their code points, which are in the order of their UTF-8 bytes."""
     def key(row: list[str]) -> Order:
         return [int(cell) if kind == 'INTEGER' else cell

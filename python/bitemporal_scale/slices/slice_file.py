@@ -14,7 +14,7 @@ class Loaded:
 
 
 class Outcome(NamedTuple):
-    """An outcome's kind is done, answer or refused; `fields` are those of its record after the
+    """An outcome's kind is done, answer or refused; `fields` are its record's fields after the
     number. Of an answer `names` are the columns, `place` is where its rows begin in the file, and
     `audit` has the fields of its audit, or is None."""
     kind: str

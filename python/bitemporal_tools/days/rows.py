@@ -26,7 +26,7 @@ class DayRow(NamedTuple):
 
 @dataclasses.dataclass
 class DayTable:
-    """The answer of a statement. `columns` are those of the values, and `kinds` their types, as far
+    """The answer of a statement. `columns` are the values' names, and `kinds` their types, as far
     as they are known."""
     number: int
     title: str

@@ -57,7 +57,7 @@ def are_digits(texts: Sequence[str], most: int) -> bool:
 
 
 def begins_with_zero(texts: Sequence[str]) -> bool:
-    """Whether one of these cells of digits is a 0 and more digits after it."""
+    """Whether a cell of digits is a 0 and more digits after it."""
     return not {text for text in texts if text[0] == '0'} <= {'0'}
 
 

@@ -160,7 +160,7 @@ def too_deep(tokens: list[Token]) -> Optional[Token]:
 
 
 def parsed(tokens: list[Token]) -> Parsed:
-    """The piece of these tokens, read."""
+    """The piece that these tokens make."""
     if len(tokens) > MOST_TOKENS:
         fault = Fault(21, tokens[MOST_TOKENS].offset, f'The statement has {len(tokens):,} tokens,'
                                                       f' and {MOST_TOKENS:,} are the most.')

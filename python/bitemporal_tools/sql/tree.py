@@ -124,7 +124,7 @@ class Not(NamedTuple):
 
 
 class Comparison(NamedTuple):
-    """A comparison's offset is that of the sign."""
+    """A comparison's offset is its sign's."""
     left: Side
     sign: str
     right: Side

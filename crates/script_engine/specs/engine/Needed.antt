@@ -63,7 +63,7 @@ EndInRow rows day values =
     × InSnapshot rows day last × (first ++ last ≡ values)
 
 -- the rows are of the set, and lack none that can be these values of a row that meets the
--- conditions and in which such values stand before them
+-- conditions and in which such values come before them
 pub record IsPrunedAfter (StandBefore : ℤ → List Value → Type 0)
     (conjuncts : List (Tree CompareValues)) (start : ℕ) (InSet : ℤ → List Value → Type 0)
     (rows : List PeriodRow) : Type 0 where
