@@ -47,6 +47,9 @@ Examples:
 
 The records of a statement are printed as soon as its change is in the file.
 
+Copy a store by --backup, also while it is in use: STORE and the STORE-wal next to it belong
+together. Remove STORE-wal before a copy is put in the place of STORE.
+
 Two stores with equal histories have one sum, also where one is a copy or a restored dump. A sum is
 no defence against forgery.
 
