@@ -1,4 +1,4 @@
--- What other databases say otherwise: docs/PORTING.md has each construct beside its own.
+-- Constructs of other databases, as this one says them: docs/PORTING.md has both, side by side.
 CREATE TABLE PRICE (ITEM INTEGER, CENTS INTEGER, S DATE, E DATE,
  SS TIMESTAMP GENERATED ALWAYS AS ROW START, SE TIMESTAMP GENERATED ALWAYS AS ROW END,
  PERIOD FOR VALID (S, E), PERIOD FOR SYSTEM_TIME (SS, SE),

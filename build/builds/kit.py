@@ -1,4 +1,4 @@
-"""What the kit's `rt` knows of a crate: how it calls `rattle` for it, and the stamp by which it
+"""A crate as the kit's `rt` knows it: how it calls `rattle` for it, and the stamp by which it
 knows that what was built is of the files as they are.
 
 `rt lib` proves a library over earlier checks' work, and leaves its proofs in what it builds, up

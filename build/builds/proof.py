@@ -52,7 +52,7 @@ class Proof:
         return True
 
     def refusal(self) -> str:
-        """What was said of what was not proved, and the last lines."""
+        """The messages about functions that were not proved, and the last lines."""
         self.output.seek(0)
         lines = self.output.read().decode(errors='replace').splitlines(keepends=True)
         errors = [line for line in lines[:-8] if re.search(r'error|not proved|no proof', line)]
@@ -64,7 +64,7 @@ class Proof:
 
 
 def processes_at_once() -> int:
-    """How many processes there may be: two more than processors, since one alone reads a crate
+    """The most processes at one time: two more than processors, since one alone reads a crate
     before several prove it, but no more than the free memory allows."""
     free = MEMORY_OF_A_PROCESS
     with open('/proc/meminfo', encoding='utf-8') as file:
@@ -75,7 +75,7 @@ def processes_at_once() -> int:
 
 
 def jobs_of(name: str, is_first: bool, are_few: bool, most: int) -> int:
-    """How many processes a crate gets, at most `most`.
+    """The number of processes that a crate gets, at most `most`.
 
     Two prove a crate in two thirds of the time of one, four in half of it or a little less, with a
     seventh and half as much again of a processor's time. So while there are crates enough to keep

@@ -19,7 +19,7 @@ PROGRAM = 'bitemporal_cli'
 OUT = ROOT / 'crates' / PROGRAM / 'out'
 # The crates of a repository, each with those that it depends on.
 Crates = dict[str, list[str]]
-# How the quick build is made, and what is linked with it.
+# Files by which the quick build is made, and that are linked with it.
 QUICK_PARTS = ['build/builds/quick.py', 'build/builds/fault.c']
 
 
@@ -113,8 +113,8 @@ def within(path: pathlib.Path) -> Iterator[pathlib.Path]:
 
 
 def changed(path: pathlib.Path) -> int:
-    """When its bytes or its status were last changed: a copy may keep the first time, not the
-    second."""
+    """The time at which its bytes or its status were last changed: a copy may keep the first, not
+    the second."""
     status = path.stat()
     return max(status.st_mtime_ns, status.st_ctime_ns)
 

@@ -1,4 +1,4 @@
-"""What a build is of: the release or the commit of its sources, and whether it is proved."""
+"""The origin of a build: the release or the commit of its sources, and whether it is proved."""
 from __future__ import annotations
 
 import shutil
@@ -6,14 +6,14 @@ import subprocess
 
 from . import sums
 
-# How many digits of a commit and of a sum are reported.
+# Digits of a commit and of a sum that are reported.
 DIGITS = 12
-# What a build is made from.
+# Places of the files that a build is made from.
 SOURCES = ['crates', 'crates.txt']
 
 
 def git(*words: str) -> str | None:
-    """What `git` says of the repository, if it is one, and has what is asked for."""
+    """The answer of `git` about the repository, if it is one and has what is asked for."""
     if not (sums.ROOT / '.git').exists() or shutil.which('git') is None:
         return None
     ran = subprocess.run(['git', *words], cwd=sums.ROOT, capture_output=True, text=True,

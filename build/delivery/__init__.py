@@ -1,1 +1,1 @@
-"""What is installed of the program, and the packages of it."""
+"""The installed files of the program, and its packages."""

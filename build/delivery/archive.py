@@ -19,8 +19,8 @@ DEBIAN = sums.ROOT / 'packaging/debian'
 
 
 class Release:
-    """What a package is of: its number, of a release or of the commit after one, and its moment, in
-    seconds since 1970, which all files of a package get."""
+    """The version of a package: its number, of a release or of the commit after one, and its
+    moment, in seconds since 1970, which all files of a package get."""
 
     def __init__(self, kind: str) -> None:
         source = (sums.ROOT / 'crates/command_line/src').rglob('*.rt')
@@ -34,7 +34,7 @@ class Release:
             self.number += f"~git{day.replace('-', '')}.{commit}"
 
     def author(self) -> str:
-        """Who made the commit."""
+        """The person who made the commit."""
         return version.git('show', '-s', '--format=%an <%ae>', 'HEAD') or f'{NAME} <root@localhost>'
 
     def date(self) -> str:
@@ -81,8 +81,8 @@ def debian(release: Release, into: pathlib.Path) -> pathlib.Path:
 
 
 def as_debian_wants(release: Release, laid: tree.Tree) -> None:
-    """What Debian's rules ask for: a program without symbols, packed pages of the manual, its own
-    Python, one file of copyrights, and two packed lists of changes."""
+    """The form that Debian's rules ask for: a program without symbols, packed pages of the
+    manual, its own Python, one file of copyrights, and two packed lists of changes."""
     documents, program = laid.top / tree.DOCUMENTS, laid.top / tree.LIBRARY / 'program/bitemporal'
     subprocess.run(['llvm-strip', program], check=True,
                    executable=pathlib.Path(kit.module().KIT, 'toolchain/bin/clang'))

@@ -1,5 +1,5 @@
-"""What is installed, and where: the program, its tools, pages of the manual, completions, documents
-and units of systemd.
+"""The installed files and their places: the program, its tools, pages of the manual,
+completions, documents and units of systemd.
 
 All of it is in PREFIX/lib/bitemporal, but for what has a place of its own. There the launcher is,
 as in the repository, and next to it the program, by which it knows that it is installed, and a line
@@ -35,7 +35,7 @@ class Tree:
         self.laid: list[str] = []
 
     def place(self, name: str) -> pathlib.Path:
-        """Where a new file with this name is put, in place of one that exists."""
+        """The place of a new file with this name, which replaces one that exists."""
         path = self.top / name
         path.parent.mkdir(parents=True, exist_ok=True)
         path.unlink(missing_ok=True)

@@ -30,7 +30,7 @@ def cents(number: int) -> str:
 
 def cut(dice: random.Random, first: datetime.date, last: datetime.date, count: int,
         has_gaps: bool) -> list[Portion]:
-    """So many portions of the days from first to last; of some the second half is left out."""
+    """Portions of the days from first to last; of some the second half is left out."""
     days = sorted(dice.sample(range(1, (last - first).days), count - 1))
     starts = [first, *(first + day * DAY for day in days)]
     ends = [*(start - DAY for start in starts[1:]), last]
@@ -109,7 +109,7 @@ def night(dice: random.Random, lines: Sequence[Row]) -> Iterator[Row]:
 
 
 def managers(dice: random.Random) -> Iterator[Row]:
-    """Who manages which department: portions with gaps, and now and then a second manager."""
+    """Managers of departments: portions with gaps, and now and then a second manager."""
     for dept in range(1, DEPARTMENTS + 1):
         for place, (first, last) in enumerate(cut(dice, FIRST, LAST, 9, True)):
             yield [dept, 900 + dept * 20 + place, first, '' if last == LAST else last]

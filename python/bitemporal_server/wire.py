@@ -67,7 +67,7 @@ class Fields:
 
 
 def exactly(stream: IO[bytes], count: int) -> bytes:
-    """So many bytes of a stream."""
+    """Reads exactly this number of bytes of a stream."""
     data = stream.read(count)
     if len(data) < count:
         raise Gone('the connection ended')

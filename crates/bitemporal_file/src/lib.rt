@@ -1,5 +1,5 @@
 //! The program `bitemporal_file` but for its `main`: scripts over a store in a file, which stays.
-//! What to touch in order to add
+//! Places to touch, in order to add
 //!
 //! - an option: what `lib.rt` of command_line names, and what it does in `program.rt`, `over.rt`
 //!   and `specs/StoreRuns`;

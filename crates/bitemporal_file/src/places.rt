@@ -26,7 +26,7 @@ pub trait Places {
     // A name leads to this place.
     ghost leads_to: { Self → List ℕ → List ℕ → Type 0 };
 
-    // There may be nothing at this place.
+    // A place may lack a file.
     ghost may_lack: { Self → List ℕ → Type 0 };
 
     /// The place to which a name leads. An `Err` is that it leads nowhere, or out of memory.

@@ -107,7 +107,7 @@ impl EndedVersions {
     }
 
     /// Chains those that are not chained yet, so that `seen_of_key` need not look at all of them.
-    /// Which they are stays the same, on an error too: then some of them may be chained.
+    /// The versions stay the same, on an error too: then some of them may be chained.
     pub fn chain(&mut self, alloc: Global) -> Result<(), Memory>
         ensures { self.new ≡ self.old }
     {

@@ -1,5 +1,5 @@
 -- The versions that FOR SYSTEM_TIME sees, by their system time, as in ISO/IEC 9075-2:2011.
--- That a window without a moment sees nothing is our own.
+-- A window without a moment sees nothing: this rule is our own.
 use Rattle.std.specs.Prelude.{ℤ, Bool, ◌&&◌, int_lt, int_le}
 use Rattle.std.specs.Ordering.{int_eq}
 use Rattle.period_core.specs.Moments.{forever}

@@ -31,7 +31,7 @@ const FEW: usize = 32;
 
 /// The rows of one key. If they are many, their periods are stored too, with their places,
 /// so that a look at a few days, or one row more or less, costs little however many they are.
-/// They are in a box, so that a key of few rows takes little memory.
+/// The periods are in a box, so that a key of few rows takes little memory.
 #[derive(Drop)]
 pub struct KeyRows {
     rows: Vec<VersionRow>,

@@ -6,7 +6,7 @@
 //! `key_rows`). Those of one key are found by days, if they are many: their periods are stored
 //! too, with their places (`placed_period`) in blocks (`block`, `period_blocks`), and
 //!   `near_rows` looks at the blocks near a period alone.
-//! - Their periods are also in an index by the columns of references (`period_indexes`,
+//! - The rows' periods are also in an index by the columns of references (`period_indexes`,
 //!   `keyed_periods`, `ordered_periods`). `TableIndex` has both, and follows a change all or none.
 //! - `plans` makes a change's plan of the rows of the keys in the range that its condition leaves
 //!   (`fixed_keys`, `key_range`), and of many rows of a key of those near its portion.

@@ -155,7 +155,7 @@ impl<S: Alter> Engine<S> {
             → HaveOwnRowids ((state S.Store connection).now.trees 2)
             → IsFailure S.Store connection failed.1 failed.0) }
 
-        // So is a new store in a database without tables.
+        // A new store in a database without tables is refused for these reasons alone too.
         ensures why_new { IfErr result (λ failed. IsUsable S.Store failed.1
             → (state S.Store connection).now.schema ≡ no_schema
             → IsFailure S.Store connection failed.1 failed.0) }

@@ -70,7 +70,7 @@ pub fn piece_faults(tokens: &[Token<'_>]) -> PieceFaults
     // The refusal for a literal is the lowest-numbered one whose condition holds.
     ensures least { IfSome result.literal (IsLeast (LiteralApplies (lexemes tokens.now))) }
 
-    // There is none only if no condition holds.
+    // A piece has no such refusal only if no condition holds.
     ensures none { IfNone result.literal (NoneApplies (LiteralApplies (lexemes tokens.now))) }
 {
     let faults = faults_of(tokens);

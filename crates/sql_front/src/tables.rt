@@ -36,7 +36,7 @@ enum TableElement {
     Reference(ReferenceElement),
 }
 
-// Both begin alike: the third token decides whether the period is a system period.
+// Periods of both kinds begin alike: the third token decides whether the period is a system period.
 #[tactic(auto, unfolding(crate::specs::reading::ElementReaders::some_period_read))]
 fn read_some_period<'a, 'b>(
     alloc: Global,

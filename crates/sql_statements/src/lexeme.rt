@@ -22,7 +22,7 @@ pub enum Front {
 }
 
 /// The first case that fits, over the bytes of a text.
-// What the first byte alone decides is asked first: there no other case fits.
+// Cases that the first byte alone decides come first: where one fits, no other does.
 #[tactic(auto, unfolding(crate::specs::Lexis::first_lexeme))]
 fn first_of_bytes(bytes: &[u8]) -> Front
     requires { length bytes.now < text_limit }

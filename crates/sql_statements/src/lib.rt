@@ -3,7 +3,7 @@
 //!
 //! To add a form of statement: its variant in `StatementForm`, and its plain tree in `specs/Trees`
 //! and in `plain_form` of `specs/Plain`. A new keyword that is no name: `specs/Words` and `words`.
-//! What reads the statement is listed in `sql_front`.
+//! The places that read the statement are listed in `sql_front`.
 #![tactic(auto)]
 
 pub mod clock_moment;

@@ -3,7 +3,7 @@
 //! `specs/Report`; to add a cell of a list of versions, `Cell`, its text in `record.rt` and in
 //! `specs/Report`.
 //!
-//! It depends on nothing that runs statements, so that its proof need not wait for theirs.
+//! Reports depend on nothing that runs statements, so that their proof need not wait for that.
 #![tactic(auto)]
 
 mod audited;

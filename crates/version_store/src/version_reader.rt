@@ -77,7 +77,7 @@ pub(crate) fn dated_row(form: Form, row: &Row, values: Values) -> Option<Version
 
 /// The version row that a row of the query shows: its values as bytes, its period, its moments. The
 /// row of a version that has days, moments and values of columns is always read, but for memory.
-/// Its numbers are in the form's unit.
+/// The row's numbers are in the form's unit.
 pub(crate) fn read_version(alloc: Global, form: Form, row: &Row) -> Result<VersionRow, StoreFault>
     ensures shown { IfOk result (λ version. (v : TableVersion)
         × (row.now ≡ shown (written_version v))

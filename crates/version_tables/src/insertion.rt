@@ -259,8 +259,8 @@ fn insert_next<S: Alter>(
 }
 
 /// Adds rows to a table, with the system time from the moment `from` on and before the moment `to`.
-/// It is refused if a version has the key of one of them, or two of them have one key. Over a
-/// healthy database, with room for them, it is refused for nothing else but memory and faults.
+/// A row is refused if a version, or another of the rows, has its key, and all are refused with it.
+/// A healthy database with room for the rows refuses them for nothing else but memory and faults.
 pub fn insert_versions<S: Alter>(
     alloc: Global,
     transaction: &mut Transaction<'_, S>,

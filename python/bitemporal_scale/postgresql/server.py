@@ -65,7 +65,7 @@ class PrivateServer:
         self.connection = ''
 
     def __enter__(self) -> PrivateServer:
-        # So that a process that is asked to end stops its servers first.
+        # A process that is asked to end stops its servers first.
         signal.signal(signal.SIGTERM, lambda *_: sys.exit(128 + signal.SIGTERM))
         try:
             self.start()

@@ -1,4 +1,4 @@
-"""Whose rows hold on some day of a window, and whose on none.
+"""Groups whose rows hold on some day of a window, and groups whose rows hold on none.
 
 Whoever is asked about is a list of values, such as a number of a worker. A condition holds of it on
 the days on which an answer has a row with these values, and with some more if it names them.

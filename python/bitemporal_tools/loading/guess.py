@@ -189,7 +189,7 @@ class Guess:
         return inclusive, exclusive
 
     def ends_of_a_group(self) -> tuple[int, int]:
-        """Both numbers by the group of columns in which the most rows follow each other."""
+        """The two numbers by the group of columns in which the most rows follow each other."""
         most = MOST_ROWS_GROUPED
         rows = GroupedRows({column.name: column.texts[:most] for column in self.values
                             if not column.scale}, self.days[:most], range(most),

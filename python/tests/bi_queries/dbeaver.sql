@@ -1,4 +1,4 @@
--- What DBeaver asks through JDBC, beside DatabaseMetaData. The session.
+-- Queries of DBeaver through JDBC, besides DatabaseMetaData: the session.
 --: current_schema()
 --= public
 SELECT current_schema(),session_user
@@ -103,7 +103,7 @@ SELECT r.rulename, r.ev_type FROM pg_catalog.pg_rewrite r, LATERAL (SELECT ROW(1
 SELECT t.* FROM public."EMP" t
 LIMIT 200
 
--- The same rows with a filter and an order.
+-- Rows of a table with a filter and an order.
 --= 2 | 298050
 --= 2 | 305000
 --: ENO, CENTS
@@ -117,7 +117,7 @@ SELECT count(*) AS total FROM public."PAY" t
 --= 2 | 298050 | 2024-01-01 | 2024-07-01 | 2024-01-01 00:00:00 | 9999-12-31 23:59:59.999999
 SELECT * FROM public."PAY" WHERE "CENTS" = 298050
 
--- Who it is, the name of the program, and the schema that is chosen.
+-- The user, the name of the program, and the schema that is chosen.
 --~ of another version
 --= PostgreSQL 9.6.0 (bitemporal 0.1.0)
 SELECT version()
@@ -175,7 +175,7 @@ SELECT n.oid,n.*,d.description FROM pg_catalog.pg_namespace n LEFT OUTER JOIN pg
 --= NULL | NULL
 SELECT c.oid,pg_catalog.pg_total_relation_size(c.oid) as total_rel_size,pg_catalog.pg_relation_size(c.oid) as rel_size FROM pg_class c WHERE c.relnamespace=2200
 
--- What a table inherits, its children, policies, rules, and who may use it.
+-- Tables that a table inherits from, its children, policies, rules, and who may use it.
 --= none
 SELECT i.*,c.relnamespace FROM pg_catalog.pg_inherits i,pg_catalog.pg_class c WHERE i.inhrelid=16404 AND c.oid=i.inhparent ORDER BY i.inhseqno
 
@@ -192,7 +192,7 @@ SELECT r.oid,r.* FROM pg_catalog.pg_rewrite r WHERE r.ev_class=16404
 --= none
 SELECT * FROM information_schema.table_privileges WHERE table_schema='public' AND table_name='PAY'
 
--- What depends on a table, and which references there are to it.
+-- Objects that depend on a table, and the references to it.
 --: refname
 --= none
 SELECT DISTINCT dep.deptype, dep.classid, cl.relkind, attr.attname, pg_catalog.pg_get_expr(ad.adbin, ad.adrelid) adefval, CASE WHEN cl.relkind IS NOT NULL THEN cl.relkind::text || COALESCE(dep.objsubid::text, '') ELSE '' END AS type, COALESCE(coc.relname, clrw.relname) AS ownertable, COALESCE(cl.relname, conname, rulename, 'x') AS refname FROM pg_depend dep LEFT JOIN pg_class cl ON dep.objid=cl.oid LEFT JOIN pg_attribute attr ON dep.objid=attr.attrelid AND dep.objsubid=attr.attnum LEFT JOIN pg_rewrite rw ON dep.objid=rw.oid LEFT JOIN pg_class clrw ON clrw.oid=rw.ev_class LEFT JOIN pg_constraint con ON dep.objid=con.oid LEFT JOIN pg_class coc ON con.conrelid=coc.oid LEFT JOIN pg_attrdef ad ON ad.oid=dep.objid WHERE dep.refobjid=16404

@@ -1,4 +1,4 @@
--- What Grafana's data source of PostgreSQL asks. The version, first of all.
+-- Queries of Grafana's data source of PostgreSQL: the version, first of all.
 --~ of another version
 --= 906
 SELECT current_setting('server_version_num')::int/100 as version
@@ -181,7 +181,7 @@ SELECT
   LIMIT 1
 ;
 
--- Its tables.
+-- The tables.
 --= "EMP"
 --= "PAY"
 SELECT quote_ident(table_name) FROM information_schema.tables WHERE
@@ -196,7 +196,7 @@ SELECT quote_ident(table_name) FROM information_schema.tables WHERE
             string_to_array(current_setting('search_path'),',') s
           ) ORDER BY table_name
 
--- Its columns that may be the time.
+-- Columns that may be the time.
 --= "CENTS"
 --= "ENO"
 --= "SE"
@@ -229,7 +229,7 @@ SELECT udt_name FROM information_schema.columns WHERE
             string_to_array(current_setting('search_path'),',') s
           ) AND quote_ident(column_name) = '"CENTS"'
 
--- Its aggregates, and the values of a column.
+-- Aggregates, and the values of a column.
 --~ they are there
 --= none
 SELECT DISTINCT proname FROM pg_aggregate INNER JOIN pg_proc ON pg_aggregate.aggfnoid = pg_proc.oid INNER JOIN pg_type ON pg_type.oid=pg_proc.prorettype WHERE pronargs=1 AND typname IN ('float8') AND aggkind='n' ORDER BY 1
@@ -252,7 +252,7 @@ WHERE
 GROUP BY 1,2
 ORDER BY 1,2
 
--- Its changes and rates.
+-- Changes and rates.
 --= 2024-01-01 | NULL
 --= 2024-01-01 | NULL
 --= 2024-07-01 | 6950
@@ -289,7 +289,7 @@ ORDER BY 1
 --= 2024-07-01 | 15724800
 SELECT "S" AS "time", extract(epoch from CAST("S" AS timestamp) - lag(CAST("S" AS timestamp)) OVER (ORDER BY "S")) AS "seconds" FROM "PAY" WHERE "ENO" = 2 ORDER BY 1
 
--- Its averages of a moving window, and percentiles.
+-- Averages of a moving window, and percentiles.
 --= 2024-01-01 | 310000.0
 --= 2024-01-01 | 304025.0
 --= 2024-07-01 | 304350.0

@@ -1,4 +1,4 @@
--- What Metabase asks through JDBC, beside DatabaseMetaData. The time zone of the connection.
+-- Queries of Metabase through JDBC, besides DatabaseMetaData: the time zone of the connection.
 --= UTC
 select current_setting('TIMEZONE') as "timezone"
 
@@ -26,7 +26,7 @@ SELECT "c"."column_name" AS "name", CASE WHEN "c"."udt_schema" IN ('public', 'pg
 --= public | PAY | ENO | public | EMP | ENO
 SELECT "fk_ns"."nspname" AS "fk-table-schema", "fk_table"."relname" AS "fk-table-name", "fk_column"."attname" AS "fk-column-name", "pk_ns"."nspname" AS "pk-table-schema", "pk_table"."relname" AS "pk-table-name", "pk_column"."attname" AS "pk-column-name" FROM "pg_constraint" AS "c" INNER JOIN "pg_class" AS "fk_table" ON "c"."conrelid" = "fk_table"."oid" INNER JOIN "pg_namespace" AS "fk_ns" ON "c"."connamespace" = "fk_ns"."oid" INNER JOIN "pg_attribute" AS "fk_column" ON "c"."conrelid" = "fk_column"."attrelid" INNER JOIN "pg_class" AS "pk_table" ON "c"."confrelid" = "pk_table"."oid" INNER JOIN "pg_namespace" AS "pk_ns" ON "pk_table"."relnamespace" = "pk_ns"."oid" INNER JOIN "pg_attribute" AS "pk_column" ON "c"."confrelid" = "pk_column"."attrelid" WHERE fk_ns.nspname !~ '^information_schema|catalog_history|pg_' AND ("c"."contype" = 'f'::char) AND "fk_column"."attnum" = ANY("c"."conkey") AND "pk_column"."attnum" = ANY("c"."confkey") ORDER BY "fk-table-schema" ASC, "fk-table-name" ASC
 
--- What the user may do with each table.
+-- Rights of the user to each table.
 --= NULL | public | EMP | t | t | t | t
 --= NULL | public | PAY | t | t | t | t
 with table_privileges as (

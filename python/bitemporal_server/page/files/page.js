@@ -26,7 +26,7 @@ async function asked(path, question) {
   return response.json();
 }
 
-// What marks a cell of a whole number, and the head above one.
+// The mark of a cell of a whole number, and of the head above one.
 const kindOf = cell => /^-?[0-9]+$/.test(cell || '') ? {class: 'number'} : {};
 
 // A table with a caption. The cells of `more` come last in each row: elements of their own.
