@@ -246,13 +246,39 @@ class Generator:
         if not self.at(0.7):
             return None
         condition = self.condition(tables, period, 3)
+        if len(tables) > 1 and self.at(0.3):
+            condition = self.joined(tables, condition)
         return self.by_key(tables, condition) if self.at(0.3) else condition
+
+    def joined(self, tables, condition):
+        """A condition that first columns of a table's key, or of one of its references, equal
+        columns of earlier tables; beside it the given one."""
+        place = self.chance.randrange(1, len(tables))
+        known, table = tables[place]
+        key = self.looked_up(table)
+        parts = []
+        for column in key[:self.chance.randint(1, len(key))]:
+            kind = table.columns[column].kind
+            alike = [(other, name) for other, earlier in tables[:place]
+                     for name in earlier.values if earlier.columns[name].kind == kind]
+            if alike:
+                left, right = self.shuffled([self.name(known, column, tables),
+                                             self.name(*self.choice(alike), tables)])
+                parts.append(Comparison(left, '=', right))
+        parts = self.shuffled([*parts, *[condition] * self.at(0.5)])
+        return And(tuple(parts)) if len(parts) > 1 else [*parts, condition][0]
+
+    def looked_up(self, table):
+        """Columns by which rows of a table are looked up, or might be."""
+        if table.references and self.at(0.2):
+            return self.choice(table.references).columns
+        return table.key if self.at(0.9) else table.key[1:] or table.key
 
     def by_key(self, tables, condition):
         """A condition that first columns of a table's key, mostly all, equal literals, and the next
         one is in limits; beside it the given one."""
         known, table = self.choice(tables)
-        key = table.key if self.at(0.9) else table.key[1:]
+        key = self.looked_up(table)
         count = len(key) if self.at(0.5) else self.choice(range(len(key) + 1))
         parts = [self.compared(known, table, column, '=', tables) for column in key[:count]]
         for column in key[count:count + 1]:
@@ -339,6 +365,8 @@ class Generator:
         for place, reference in enumerate(references):
             if place and self.at(0.5):
                 on = self.condition(known[start:place + 1], None, 1)
+                if self.at(0.3):
+                    on = self.joined(known[start:place + 1], on)
                 chains[-1] = Chain(chains[-1].table, (*chains[-1].joins, Join(reference, on)))
             else:
                 start = place
