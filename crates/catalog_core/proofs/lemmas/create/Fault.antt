@@ -1,7 +1,7 @@
 -- The first condition of a CREATE that holds, by names and then by places, and what is known if none does.
-use Rattle.std.proofs.Common.{◌≡◌, ◌∷◌, ◌++◌, ◌&&◌, ◌||◌, ◌∙◌, ℕ, Bool, true, false, not, List, [], Option, None, Some, ap, length, lit≤, map, refl, sym}
+use Rattle.std.proofs.Common.{◌≡◌, ◌∷◌, ◌||◌, ◌∙◌, Bool, true, false, not, List, [], Option, None, Some, ap, length, lit≤, map, refl, sym}
 use Rattle.std.specs.Prelude.{◌==◌}
-use Rattle.std.specs.List.{list_all, list_any}
+use Rattle.std.specs.List.{list_all}
 use Rattle.std.specs.Option.{option_or}
 use Rattle.std.proofs.lemmas.Bool.{not-false, or_parts}
 use Rattle.period_core.specs.Leasts.{IsLeast, NoneApplies}
@@ -11,13 +11,13 @@ use Rattle.sql_statements.specs.declared.create.CreateTable.{CreateTable}
 use Rattle.catalog_core.proofs.lemmas.create.Alike.{dates_alike, repeats_alike}
 use Rattle.catalog_core.proofs.lemmas.create.Built.{references_kept}
 use Rattle.catalog_core.proofs.lemmas.create.Declared.{lengths_same}
-use Rattle.catalog_core.proofs.lemmas.create.Given.{GoodParts, good_parts}
+use Rattle.catalog_core.proofs.lemmas.create.Given.{good_parts}
 use Rattle.catalog_core.proofs.lemmas.create.Passed.{date_period, distinct_names}
 use Rattle.catalog_core.proofs.lemmas.create.Shape.{is_one}
 use Rattle.catalog_core.proofs.lemmas.judged.Least.{first_append, first_least, none_first}
-use Rattle.catalog_core.proofs.lemmas.judged.Sound.{all_false, are_false}
+use Rattle.catalog_core.proofs.lemmas.judged.Sound.{all_false}
 use Rattle.catalog_core.proofs.lemmas.lists.AnyTests.{or_right}
-use Rattle.catalog_core.specs.create.Creation.{create_conditions, has_bad_column, has_bad_period, has_bad_system_period, has_other_period, has_unequal_lists, is_bad_definition, lacks_name, lacks_one_of_each, lacks_parent, lacks_period, named_conditions, placed_conditions, references_no_key, some_match}
+use Rattle.catalog_core.specs.create.Creation.{create_conditions, has_bad_column, has_bad_period, has_bad_system_period, has_unequal_lists, is_bad_definition, lacks_name, lacks_one_of_each, lacks_parent, lacks_period, named_conditions, placed_conditions, some_match}
 use Rattle.catalog_core.specs.create.Definition.{Defines, column_parts, columns_of, declared_column, declared_key, declared_period, declared_reference, is_reference_if_equal, reference_parts}
 use Rattle.catalog_core.specs.create.Places.{are_dates, has_system_columns}
 use Rattle.catalog_core.specs.RefusalConditions.{Holds, first_holding}

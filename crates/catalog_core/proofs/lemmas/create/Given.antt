@@ -10,7 +10,6 @@ use Rattle.std.proofs.lemmas.Option.{get_or_from_slice_get, same_Some}
 use Rattle.std.proofs.lemmas.Slice.Eq.{bytes_eq-Decides}
 use Rattle.sql_statements.specs.declared.create.CreateTable.{CreateTable}
 use Rattle.sql_statements.specs.declared.create.ReferenceElement.{ReferenceElement}
-use Rattle.catalog_core.proofs.lemmas.bytes.DefinitionParts.{parts}
 use Rattle.catalog_core.proofs.lemmas.create.Alike.{columns_are, dates_alike, keys_alike, no_keys_alike, other_kinds_alike, repeats_alike}
 use Rattle.catalog_core.proofs.lemmas.create.Built.{mapped_lengths}
 use Rattle.catalog_core.proofs.lemmas.create.Declared.{reference_same}

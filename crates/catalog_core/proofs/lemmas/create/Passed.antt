@@ -16,7 +16,6 @@ use Rattle.catalog_core.specs.table.Matches.{is_matching}
 use Rattle.catalog_core.specs.table.Naming.{passes}
 use Rattle.catalog_core.specs.table.TableWords.{def_matches, def_place, has_date_period, has_distinct_names, is_date_column}
 use Rattle.catalog_core.specs.declared.table.Column.{Column}
-use Rattle.catalog_core.specs.declared.table.ColumnKind.TheVariants.{Date}
 use Rattle.catalog_core.specs.declared.table.Reference.{Reference}
 use Rattle.catalog_core.specs.declared.table.TableDef.{TableDef}
 use Rattle.catalog_core.specs.declared.table.ValueKind.TheVariants as kind

@@ -1,5 +1,5 @@
 -- The names of a table's columns by their places, if no two columns share one: a name has one place.
-use Rattle.std.proofs.Common.{◌≡◌, ◌<◌, ◌∷◌, ◌&&◌, ◌||◌, ◌∙◌, ℕ, zero, suc, Bool, true, false, List, [], None, Some, arith, ap, bytes_eq, get_or, length, map, nat_lt, refl, sym}
+use Rattle.std.proofs.Common.{◌≡◌, ◌<◌, ◌∷◌, ◌||◌, ◌∙◌, ℕ, zero, suc, Bool, true, false, List, [], Some, arith, ap, bytes_eq, get_or, length, map, nat_lt, refl, sym}
 use Rattle.std.specs.Prelude.{◌==◌, slice_get}
 use Rattle.std.specs.List.{list_all, list_any}
 use Rattle.std.proofs.lemmas.Bool.{and_parts, eqb-true, false≢true, ltb-true, or_from}
