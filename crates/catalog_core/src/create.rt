@@ -1,8 +1,8 @@
 //! CREATE TABLE: its refusal, or the definition that it gives.
 
-ghost use Rattle.std.specs.Prelude.{◌≡◌, IfErr, IfOk, MatchOption, OnOk, true};
-ghost use Rattle.period_core.specs.Leasts.{IsLeast, MayAnswer, NoneApplies};
-ghost use Rattle.catalog_core.specs.create.Creation.{create_conditions};
+ghost use Rattle.std.specs.Prelude.{◌≡◌, IfErr, IfOk, OnOk, true};
+ghost use Rattle.period_core.specs.Leasts.{MayAnswer, NoneApplies};
+ghost use Rattle.catalog_core.specs.create.Creation.{create_conditions, named_conditions};
 ghost use Rattle.catalog_core.specs.create.Definition.{Defines};
 ghost use Rattle.catalog_core.specs.RefusalConditions.{Holds, first_holding};
 ghost use Rattle.catalog_core.specs.table.TableWords.{has_date_period, has_distinct_names};
@@ -11,30 +11,31 @@ pub mod builder;
 pub mod lawful;
 pub mod names;
 pub mod period_counts;
+pub mod places;
 pub mod shape;
 
-use crate::create::builder::build;
+use crate::create::builder::{build, declared_columns, declared_references};
 use crate::create::names::{
     exceeds_limits, is_ambiguous, is_there, keys_period_column, lacks_name, lacks_parent,
     repeats_name,
 };
 use crate::create::period_counts::period_counts;
-use crate::create::shape::{has_unequal_lists, is_bad_definition, references_other_kind};
+use crate::create::shape::{has_bad_column, placed_fault};
 use crate::table::TableDef;
 use crate::table::catalog::Catalog;
 use period_core::{Memory, Refusal};
 use sql_statements::CreateTable;
 use std::alloc::Global;
 
-/// The first refusal whose condition holds.
+/// The first refusal whose condition holds, of those that names alone decide.
 #[tactic(auto, unfolding(crate::specs::create::Creation::lacks_name))]
-fn first_fault(
+fn named_fault(
     alloc: Global,
     catalog: &Catalog,
     create: &CreateTable,
 ) -> Result<Option<Refusal>, Memory>
     ensures { IfOk result
-        (λ first. first ≡ first_holding (create_conditions catalog.now.tables create.now)) }
+        (λ first. first ≡ first_holding (named_conditions catalog.now.tables create.now)) }
 {
     if exceeds_limits(catalog, create) {
         return Ok(Some(Refusal::LimitReached));
@@ -55,31 +56,10 @@ fn first_fault(
     if repeats_name(create, &counts) {
         return Ok(Some(Refusal::DuplicateName));
     }
-    if keys_period_column(catalog, create) {
+    if keys_period_column(create) {
         return Ok(Some(Refusal::PeriodColumn));
     }
-    if is_bad_definition(catalog, create) {
-        return Ok(Some(Refusal::BadDefinition));
-    }
-    if has_unequal_lists(create) {
-        return Ok(Some(Refusal::ColumnCount));
-    }
-    if references_other_kind(catalog, create) {
-        return Ok(Some(Refusal::TypeMismatch));
-    }
     Ok(None)
-}
-
-/// The refusal of a CREATE, if it is refused.
-fn create_fault(
-    alloc: Global,
-    catalog: &Catalog,
-    create: &CreateTable,
-) -> Result<Option<Refusal>, Memory>
-    ensures { let holds = Holds (create_conditions catalog.now.tables create.now)
-        in IfOk result (λ fault. MatchOption fault (NoneApplies holds) (IsLeast holds)) }
-{
-    first_fault(alloc, catalog, create)
 }
 
 /// The definition that a CREATE gives. An `Err` is the lowest-numbered of the refusals 21 to 30
@@ -93,9 +73,17 @@ pub fn define(alloc: Global, catalog: &Catalog, create: &CreateTable) -> Result<
     ensures refused { IfErr result
         (MayAnswer (Holds (create_conditions catalog.now.tables create.now))) }
 {
-    let fault = create_fault(alloc, catalog, create)?;
+    let fault = named_fault(alloc, catalog, create)?;
     if let Some(fault) = fault {
         return Err(fault);
     }
-    Ok(build(alloc, catalog, create)?)
+    if has_bad_column(create) {
+        return Err(Refusal::BadDefinition);
+    }
+    let columns = declared_columns(alloc, create)?;
+    let references = declared_references(alloc, catalog, create)?;
+    if let Some(fault) = placed_fault(catalog, create, &columns, &references) {
+        return Err(fault);
+    }
+    Ok(build(alloc, create, columns, references)?)
 }

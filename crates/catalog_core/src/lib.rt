@@ -5,14 +5,15 @@
 //! - a form of change or query: its resolved form in `change.rt`, `stored.rt` or
 //!   `query/resolved.rt`, what gives it in `statement_resolution`, and what it makes of a day in
 //!   `history_model`;
-//! - a refusal of CREATE TABLE: the list of its conditions, `create_conditions`, and the function
-//!   that judges them, `first_fault`, both in ascending order; and `lawful`, which judges a
-//!   definition by its places;
+//! - a refusal of CREATE TABLE: its condition in the list `named_conditions` or
+//!   `placed_conditions`, and the function that judges these, `named_fault` or `placed_fault`, in
+//!   ascending order. Of a definition the same is asked in `passes_all`: a test by places is one
+//!   function, in `create/places.rt`, for both;
 //! - a test of a condition: `CompareValues` in `condition.rt` or `VersionTest` in `stored.rt`, and
 //!   its truth in `specs/Conditions` or `specs/stored/StoredAnswers`; its faults and its positions
 //!   are in `statement_resolution`;
 //! - a column type: `ColumnKind` and `ValueKind`, `specs/table/Kinds`, `create/builder.rt` and
-//!   `create/lawful.rt`, and its number in `bytes/`.
+//!   `create/places.rt`, and its number in `bytes/`.
 #![tactic(auto)]
 
 mod bytes;

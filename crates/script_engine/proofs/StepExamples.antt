@@ -19,8 +19,9 @@ use Rattle.sql_statements.specs.declared.create.CreateTable.{CreateTable}
 use Rattle.sql_statements.specs.declared.create.Generated.TheVariants as generated
 use Rattle.sql_statements.specs.declared.create.TypeName.TheVariants as type_name
 use Rattle.sql_statements.specs.declared.statement.InsertRows.{InsertRows}
-use Rattle.catalog_core.specs.create.Creation.{create_conditions, period_matches, some_parent_match, some_match, has_sort, sort_count, exceeds_limits, is_there, lacks_parent, names_other_period, lacks_period, lacks_name, is_ambiguous, is_shared, repeats_name, is_no_value_column, some_no_value, keys_period_column, lacks_one_of_each, has_bad_period, has_bad_system_period, is_bad_type, has_bad_column, is_used_otherwise, has_other_period, is_at, is_key_name, is_named, are_key, names_no_key, references_no_key, is_bad_definition, has_unequal_lists, own_kind, have_other_kinds, names_other_kind, references_other_kind}
+use Rattle.catalog_core.specs.create.Creation.{create_conditions, period_matches, some_parent_match, some_match, exceeds_limits, is_there, lacks_parent, names_other_period, lacks_period, lacks_name, is_ambiguous, is_shared, repeats_name, is_no_value_column, is_keyed, keys_period_column, lacks_one_of_each, has_bad_period, has_bad_system_period, is_bad_type, has_bad_column, is_used_otherwise, has_other_period, names_no_key, references_no_key, is_bad_definition, has_unequal_lists, names_other_kind, references_other_kind}
 use Rattle.catalog_core.specs.create.Definition.{declared_kind, declared_reference}
+use Rattle.catalog_core.specs.create.Places.{has_system_columns, declared_at, kind_at, is_date_place, are_dates}
 use Rattle.history_model.specs.Histories.{Queried, Changed, Created, History, last_state, new_database, opened, with_event}
 use Rattle.history_model.specs.Versions.{plain_version}
 use Rattle.version_store.specs.Contents.{version_cmp, version_in}
@@ -29,8 +30,8 @@ use Rattle.statement_resolution.specs.change.PortionChanges.{lacks_named}
 use Rattle.statement_resolution.specs.stored.StoredQueries.{is_flawed_stored, stored_conditions}
 use Rattle.statement_resolution.specs.change.Insertion.{wanted_names, given_names, lacks_table, lists_unknown, lists_ambiguous, repeats_column, is_system_name, some_system_name, lists_system, omits_column, has_row_of_other_length, has_other_count, is_of_other_kind, is_longer, is_too_long, is_faulty, gives_faulty_value, has_faulty_value, given_value, value_for, is_no_period, gives_no_period, has_no_period}
 use Rattle.catalog_core.specs.RefusalConditions.{Holds, RefusalCondition, first_holding}
-use Rattle.catalog_core.specs.table.Kinds.{kind_of_type, kind_of_column, same_kind, differ}
-use Rattle.catalog_core.specs.table.Matches.{is_matching, is_of_sort}
+use Rattle.catalog_core.specs.table.Kinds.{kind_of_column, same_kind, differ}
+use Rattle.catalog_core.specs.table.Matches.{is_matching}
 use Rattle.catalog_core.specs.table.Naming.{Name, repeats}
 use Rattle.statement_resolution.specs.change.Resolution.{change_conditions, empty_period}
 use Rattle.catalog_core.specs.table.TableWords.{def_kind, is_value_column, number_of, table_of_name}
@@ -111,7 +112,7 @@ with_table = with_event at_first (Created emp)
 
 -- no condition of a refusal holds for the CREATE in a new store
 creation_is_sound : NoneApplies (StatementApplies at_first (statement.create creation))
-unfolding matches_among period_matches some_match_among some_parent_match some_match has_sort sort_count exceeds_limits is_there lacks_parent names_other_period lacks_period lacks_name is_ambiguous is_shared repeats repeats_name is_no_value_column some_no_value keys_period_column lacks_one_of_each has_bad_period has_bad_system_period is_bad_type has_bad_column is_used_otherwise has_other_period is_at is_key_name is_named are_key names_no_key references_no_key is_bad_definition has_unequal_lists own_kind def_kind have_other_kinds names_other_kind references_other_kind is_matching is_of_sort number_of table_of_name kind_of_type kind_of_column same_kind differ find_among
+unfolding matches_among place_among some_match_among repeats declared_kind period_matches some_parent_match some_match exceeds_limits is_there lacks_parent names_other_period lacks_period lacks_name is_ambiguous is_shared repeats_name is_no_value_column is_keyed keys_period_column lacks_one_of_each has_bad_period has_bad_system_period is_bad_type has_bad_column is_used_otherwise has_other_period names_no_key references_no_key is_bad_definition has_unequal_lists names_other_kind references_other_kind is_matching has_system_columns declared_at kind_at is_date_place are_dates number_of table_of_name kind_of_column same_kind differ
 creation_is_sound = none_if_no_first (create_conditions [] creation) refl
 
 -- the statement is accepted: it gives no rows, and the table exists from then on

@@ -1,11 +1,10 @@
 -- CREATE TABLE: when it is refused.
 -- A name is judged by what it matches. One that matches nothing, in a list or among the tables, is
--- refused by 23 or 24: each other condition that it makes hold has a higher number.
-use Rattle.std.specs.Prelude.{◌==◌, ◌&&◌, ◌||◌, ◌+◌, ◌∷◌, ℕ, Bool, not, List, [], Option, Some}
-use Rattle.std.specs.Prelude.{None, length, bytes_eq, count_by, nat_le, nat_lt, is_none}
-use Rattle.std.specs.Prelude.{is_some, slice_get}
-use Rattle.std.specs.List.{list_all, list_any, zip}
-use Rattle.std.specs.Option.{option_map}
+-- refused by 23 or 24, and one that matches several columns by 25: each other condition that it
+-- makes hold has a higher number. So columns are judged by places from 28 on.
+use Rattle.std.specs.Prelude.{◌==◌, ◌&&◌, ◌||◌, ◌+◌, ◌++◌, ◌∷◌, ℕ, Bool, not, List, [], Some, None}
+use Rattle.std.specs.Prelude.{length, bytes_eq, count_by, nat_le, nat_lt, is_none, is_some}
+use Rattle.std.specs.List.{list_any}
 use Rattle.period_core.specs.declared.refusal.Refusal.TheVariants.{LimitReached, TableExists}
 use Rattle.period_core.specs.declared.refusal.Refusal.TheVariants.{UnknownTable, UnknownColumn}
 use Rattle.period_core.specs.declared.refusal.Refusal.TheVariants.{AmbiguousColumn, DuplicateName}
@@ -23,19 +22,17 @@ use Rattle.sql_statements.specs.declared.create.CreateTable.{CreateTable}
 use Rattle.catalog_core.specs.RefusalConditions.{RefusalCondition}
 use Rattle.catalog_core.specs.Limits.{greatest_precision, most_code_points, most_columns}
 use Rattle.catalog_core.specs.Limits.{most_references, most_tables}
-use Rattle.catalog_core.specs.table.Matches.{is_matching, is_of_sort}
-use Rattle.catalog_core.specs.table.Kinds.{kind_of_type, differ}
-use Rattle.catalog_core.specs.table.Naming.{Name, find_among, matches_among, passes, repeats}
-use Rattle.catalog_core.specs.table.Naming.{some_match_among}
-use Rattle.catalog_core.specs.table.TableWords.{def_kind, some_def_match, table_of_name}
-use Rattle.catalog_core.specs.declared.table.match_counts.ColumnSort.{ColumnSort}
-use Rattle.catalog_core.specs.declared.table.match_counts.ColumnSort.TheVariants.{System, RowStart}
-use Rattle.catalog_core.specs.declared.table.match_counts.ColumnSort.TheVariants.{RowEnd}
-use Rattle.catalog_core.specs.declared.table.match_counts.ColumnSort.TheVariants.{PlainDate}
+use Rattle.catalog_core.specs.create.Definition.{columns_of, own_place, own_places, parent_of}
+use Rattle.catalog_core.specs.create.Definition.{parent_places}
+use Rattle.catalog_core.specs.create.Places.{are_dates, are_key_places, declared_at}
+use Rattle.catalog_core.specs.create.Places.{has_system_columns, have_two_kinds, is_row_end}
+use Rattle.catalog_core.specs.create.Places.{is_row_start}
+use Rattle.catalog_core.specs.table.Matches.{is_matching}
+use Rattle.catalog_core.specs.table.Naming.{Name, matches_among, passes, repeats, some_match_among}
+use Rattle.catalog_core.specs.table.TableWords.{some_def_match}
 use Rattle.catalog_core.specs.declared.table.match_counts.MatchCount.{MatchCount}
 use Rattle.catalog_core.specs.declared.table.match_counts.MatchCount.TheVariants.{Zero, Many}
-use Rattle.catalog_core.specs.declared.table.Column.{Column}
-use Rattle.catalog_core.specs.declared.table.ValueKind.{ValueKind}
+use Rattle.catalog_core.specs.declared.table.ColumnKind.{ColumnKind}
 use Rattle.catalog_core.specs.declared.table.TableDef.{TableDef}
 
 -- ==== words ====
@@ -47,10 +44,6 @@ own_matches c name = matches_among (λ (x : ColumnElement). x.name) c.columns na
 -- the number of the statement's application periods that have the name
 unfoldable pub period_matches : CreateTable → Name → ℕ
 period_matches c name = count_by (λ (x : PeriodElement). bytes_eq name x.name) c.periods
-
--- the table that a reference names, if it exists: the one that is being created is not
-abbrev pub parent_of : List TableDef → ReferenceElement → Option TableDef
-parent_of catalog r = table_of_name catalog r.parent
 
 -- some of the names matches the wanted number of the statement's own columns
 abbrev pub some_own_match : CreateTable → MatchCount → List Name → Bool
@@ -71,15 +64,6 @@ some_match catalog c wanted =
     || list_any (λ (x : KeyElement). some_own_match c wanted x.columns) c.keys
     || list_any (λ (x : ReferenceElement). some_own_match c wanted x.columns) c.references
     || list_any (λ (x : ReferenceElement). some_parent_match catalog wanted x) c.references
-
--- some column of this name is of the sort
-unfoldable pub has_sort : CreateTable → ColumnSort → Name → Bool
-has_sort c sort name =
-    list_any (λ (x : ColumnElement). bytes_eq name x.name && is_of_sort sort x) c.columns
-
--- the number of columns of the sort
-unfoldable pub sort_count : CreateTable → ColumnSort → ℕ
-sort_count c sort = count_by (λ (x : ColumnElement). is_of_sort sort x) c.columns
 
 -- ==== the conditions, by the numbers of their refusals ====
 
@@ -135,22 +119,24 @@ repeats_name c =
 
 -- 27: a period or system column in the table's own key or reference columns; a period column is one
 -- that a PERIOD names
-unfoldable pub is_no_value_column : CreateTable → Name → Bool
-is_no_value_column c name =
-    list_any (λ (x : PeriodElement). bytes_eq name x.start || bytes_eq name x.end) c.periods
-    || list_any (λ (x : SystemElement). bytes_eq name x.start || bytes_eq name x.end)
+unfoldable pub is_no_value_column : CreateTable → ColumnElement → Bool
+is_no_value_column c column =
+    list_any (λ (x : PeriodElement). bytes_eq column.name x.start || bytes_eq column.name x.end)
+    c.periods
+    || list_any (λ (x : SystemElement). bytes_eq column.name x.start || bytes_eq column.name x.end)
     c.system_periods
-    || has_sort c System name
+    || is_some column.generated
 
--- one of the names names a period or system column
-unfoldable pub some_no_value : CreateTable → List Name → Bool
-some_no_value c names = list_any (λ name. is_no_value_column c name) names
+-- a key has a column of the name, or a reference has it among its own
+unfoldable pub is_keyed : CreateTable → Name → Bool
+is_keyed c name =
+    list_any (λ (x : KeyElement). list_any (bytes_eq name) x.columns) c.keys
+    || list_any (λ (x : ReferenceElement). list_any (bytes_eq name) x.columns) c.references
 
--- 27: a key or a reference has a period or system column among its own columns
+-- some column is keyed so, and is a period or system column
 unfoldable pub keys_period_column : CreateTable → Bool
 keys_period_column c =
-    list_any (λ (x : KeyElement). some_no_value c x.columns) c.keys
-    || list_any (λ (x : ReferenceElement). some_no_value c x.columns) c.references
+    list_any (λ (x : ColumnElement). is_keyed c x.name && is_no_value_column c x) c.columns
 
 -- 28: there aren't exactly one application period, SYSTEM_TIME period, ROW START column, ROW END
 -- column and PRIMARY KEY
@@ -158,25 +144,24 @@ unfoldable pub lacks_one_of_each : CreateTable → Bool
 lacks_one_of_each c =
     not (length c.periods == 1)
     || not (length c.system_periods == 1)
-    || not (sort_count c RowStart == 1)
-    || not (sort_count c RowEnd == 1)
+    || not (has_system_columns (columns_of c))
     || not (length c.keys == 1)
 
--- the application period's columns aren't two different plain DATE columns
+-- the application period's columns aren't two different DATE columns
 unfoldable pub has_bad_period : CreateTable → Bool
 has_bad_period c =
     list_any
-    (λ (x : PeriodElement).
-    bytes_eq x.start x.end
-    || not (has_sort c PlainDate x.start)
-    || not (has_sort c PlainDate x.end))
+    (λ (x : PeriodElement). not (are_dates (columns_of c) (own_place c x.start) (own_place c x.end)))
     c.periods
+
+-- a name is not of a column with such a kind
+abbrev pub is_other : (ColumnKind → Bool) → CreateTable → Name → Bool
+is_other test c name = not (passes test (declared_at (columns_of c) (own_place c name)))
 
 -- the SYSTEM_TIME period isn't (ROW START column, ROW END column)
 unfoldable pub has_bad_system_period : CreateTable → Bool
 has_bad_system_period c =
-    list_any
-    (λ (x : SystemElement). not (has_sort c RowStart x.start) || not (has_sort c RowEnd x.end))
+    list_any (λ (x : SystemElement). is_other is_row_start c x.start || is_other is_row_end c x.end)
     c.system_periods
 
 -- a generated column isn't a TIMESTAMP, or a plain one is; n isn't from 1 to 1000, or p isn't from
@@ -207,26 +192,9 @@ has_other_period catalog c =
 
 -- the referenced columns aren't the parent's key columns, in some order; a column that is repeated
 -- is 26
-unfoldable pub is_at : TableDef → ℕ → Name → Bool
-is_at t place name = passes (λ (x : Column). bytes_eq name x.name) (slice_get t.columns place)
-
--- a key column has the name
-unfoldable pub is_key_name : TableDef → Name → Bool
-is_key_name t name = list_any (λ place. is_at t place name) t.key
-
--- one of the names names the column at a place
-unfoldable pub is_named : TableDef → List Name → ℕ → Bool
-is_named t names place = list_any (λ name. is_at t place name) names
-
--- each name is a key column, and each key column is named
-unfoldable pub are_key : TableDef → List Name → Bool
-are_key t names =
-    list_all (λ name. is_key_name t name) names && list_all (λ place. is_named t names place) t.key
-
--- a reference names other columns than its parent's key
 unfoldable pub names_no_key : List TableDef → ReferenceElement → Bool
 names_no_key catalog x =
-    passes (λ (t : TableDef). not (are_key t x.parent_columns)) (parent_of catalog x)
+    passes (λ (t : TableDef). not (are_key_places t (parent_places t x))) (parent_of catalog x)
 
 -- some reference does
 unfoldable pub references_no_key : List TableDef → CreateTable → Bool
@@ -250,31 +218,23 @@ has_unequal_lists c =
     c.references
 
 -- 30: a column of a reference and its parent's at the same place are of two kinds
-unfoldable pub own_kind : CreateTable → Name → Option ValueKind
-own_kind c name =
-    option_map (λ (x : ColumnElement). kind_of_type x.kind)
-    (find_among (λ (x : ColumnElement). x.name) c.columns name)
-
--- columns at the same place of two lists of names are of two kinds
-unfoldable pub have_other_kinds : CreateTable → TableDef → List Name → List Name → Bool
-have_other_kinds c t own others =
-    list_any (λ (p : Name × Name). differ (own_kind c p.0) (def_kind t p.1)) (zip own others)
-
--- a reference has columns whose kinds differ
 unfoldable pub names_other_kind : List TableDef → CreateTable → ReferenceElement → Bool
 names_other_kind catalog c x =
-    passes (λ (t : TableDef). have_other_kinds c t x.columns x.parent_columns) (parent_of catalog x)
+    passes
+    (λ (t : TableDef).
+    have_two_kinds (columns_of c) t.columns (own_places c x.columns) (parent_places t x))
+    (parent_of catalog x)
 
--- 30: some reference has
+-- some reference has such columns
 unfoldable pub references_other_kind : List TableDef → CreateTable → Bool
 references_other_kind catalog c =
     list_any (λ (x : ReferenceElement). names_other_kind catalog c x) c.references
 
 -- ==== the whole ====
 
--- the refusals that CREATE may get, each with its condition
-abbrev pub create_conditions : List TableDef → CreateTable → List RefusalCondition
-create_conditions catalog c =
+-- the refusals that names alone decide, each with its condition
+abbrev pub named_conditions : List TableDef → CreateTable → List RefusalCondition
+named_conditions catalog c =
     (LimitReached, exceeds_limits catalog c)
     ∷ (TableExists, is_there catalog c.name)
     ∷ (UnknownTable, lacks_parent catalog c)
@@ -282,7 +242,16 @@ create_conditions catalog c =
     ∷ (AmbiguousColumn, is_ambiguous catalog c)
     ∷ (DuplicateName, repeats_name c)
     ∷ (PeriodColumn, keys_period_column c)
-    ∷ (BadDefinition, is_bad_definition catalog c)
+    ∷ []
+
+-- the refusals that need the places of names, each with its condition
+abbrev pub placed_conditions : List TableDef → CreateTable → List RefusalCondition
+placed_conditions catalog c =
+    (BadDefinition, is_bad_definition catalog c)
     ∷ (ColumnCount, has_unequal_lists c)
     ∷ (TypeMismatch, references_other_kind catalog c)
     ∷ []
+
+-- all refusals that CREATE may get, each with its condition
+abbrev pub create_conditions : List TableDef → CreateTable → List RefusalCondition
+create_conditions catalog c = named_conditions catalog c ++ placed_conditions catalog c

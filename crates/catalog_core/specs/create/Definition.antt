@@ -1,5 +1,6 @@
 -- CREATE TABLE: the definition that it gives, with places for names.
-use Rattle.std.specs.Prelude.{◌∷◌, ◌≡◌, ℕ, List, [], Option, Some, None, map}
+use Rattle.std.specs.Prelude.{◌==◌, ◌||◌, ◌∷◌, ◌≡◌, ℕ, Bool, List, [], Option, Some, None}
+use Rattle.std.specs.Prelude.{filter_map, length, map, not}
 use Rattle.std.specs.Option.{option_map}
 use Rattle.sql_statements.specs.declared.create.TypeName.{TypeName}
 use Rattle.sql_statements.specs.declared.create.TypeName.TheVariants.{Integer, Date, Varchar}
@@ -11,9 +12,9 @@ use Rattle.sql_statements.specs.declared.create.PeriodElement.{PeriodElement}
 use Rattle.sql_statements.specs.declared.create.KeyElement.{KeyElement}
 use Rattle.sql_statements.specs.declared.create.ReferenceElement.{ReferenceElement}
 use Rattle.sql_statements.specs.declared.create.CreateTable.{CreateTable}
-use Rattle.catalog_core.specs.create.Creation.{parent_of}
+use Rattle.catalog_core.specs.table.IsDefinition.{is_reference}
 use Rattle.catalog_core.specs.table.Naming.{Name, place_among}
-use Rattle.catalog_core.specs.table.TableWords.{def_place, number_of}
+use Rattle.catalog_core.specs.table.TableWords.{def_place, number_of, table_of_name}
 use Rattle.catalog_core.specs.declared.table.Column.{Column}
 use Rattle.catalog_core.specs.declared.table.ColumnKind.{ColumnKind}
 use Rattle.catalog_core.specs.declared.table.ColumnKind.TheVariants as kind
@@ -32,9 +33,33 @@ declared_kind (Timestamp p) None = None
 declared_kind (Timestamp p) (Some Start) = Some (kind.RowStart p)
 declared_kind (Timestamp p) (Some End) = Some (kind.RowEnd p)
 
+-- a column of a name and a kind
+abbrev pub column_with : Name → ColumnKind → Column
+column_with name kind = record { name = name; kind = kind }
+
+-- a declared column, if its type is not refused
+abbrev pub column_of : ColumnElement → Option Column
+column_of x = option_map (column_with x.name) (declared_kind x.kind x.generated)
+
+-- the declared columns, without those whose type is refused
+abbrev pub columns_of : CreateTable → List Column
+columns_of c = filter_map column_of c.columns
+
 -- the place of the column with a name
 abbrev pub own_place : CreateTable → Name → Option ℕ
 own_place c name = place_among (λ (x : ColumnElement). x.name) c.columns name
+
+-- the places of the columns with the names, without those that match none
+abbrev pub own_places : CreateTable → List Name → List ℕ
+own_places c names = filter_map (own_place c) names
+
+-- the table that a reference names, if it exists: the one that is being created is not
+abbrev pub parent_of : List TableDef → ReferenceElement → Option TableDef
+parent_of catalog r = table_of_name catalog r.parent
+
+-- the places of the columns that a reference names in its parent, without those that match none
+abbrev pub parent_places : TableDef → ReferenceElement → List ℕ
+parent_places t x = filter_map (def_place t) x.parent_columns
 
 -- a column by its name and what it holds
 abbrev pub declared_column : ColumnElement → Name × Option ColumnKind
@@ -67,6 +92,10 @@ declared_reference catalog c x = (
 -- the parts of a reference of the definition
 abbrev pub reference_parts : Reference → Numbers
 reference_parts r = (Some r.parent, map Some r.own, Some (map Some r.keys))
+
+-- a reference is as a definition's are, unless its lists are of unequal length
+abbrev pub is_reference_if_equal : ℕ → Reference → Bool
+is_reference_if_equal count r = not (length r.own == length r.keys) || is_reference count r
 
 -- the definition has what the elements declare, with places for names
 pub record Defines (catalog : List TableDef) (c : CreateTable) (d : TableDef) : Type 0 where

@@ -2,8 +2,6 @@
 use Rattle.std.specs.Prelude.{Bool, true, false, not, Option, Some}
 use Rattle.period_core.specs.declared.value.Value.{Value}
 use Rattle.period_core.specs.declared.value.Value.TheVariants as value
-use Rattle.sql_statements.specs.declared.create.TypeName.{TypeName}
-use Rattle.sql_statements.specs.declared.create.TypeName.TheVariants as type_name
 use Rattle.catalog_core.specs.declared.table.ColumnKind.{ColumnKind}
 use Rattle.catalog_core.specs.declared.table.ColumnKind.TheVariants as kind
 use Rattle.catalog_core.specs.declared.table.ValueKind.{ValueKind}
@@ -22,13 +20,6 @@ kind_of_column (kind.Varchar n) = Text
 kind_of_column kind.Date = Date
 kind_of_column (kind.RowStart p) = Moment
 kind_of_column (kind.RowEnd p) = Moment
-
--- the kind of a column's type as it is written
-unfoldable pub kind_of_type : TypeName → ValueKind
-kind_of_type type_name.Integer = Integer
-kind_of_type type_name.Date = Date
-kind_of_type (type_name.Varchar n) = Text
-kind_of_type (type_name.Timestamp p) = Moment
 
 -- two kinds are the same
 unfoldable pub same_kind : ValueKind → ValueKind → Bool

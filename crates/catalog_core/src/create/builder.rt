@@ -1,17 +1,19 @@
-//! The definition that a sound CREATE gives.
+//! The columns and the references that a CREATE declares, with places for names, and the definition
+//! that a sound one gives.
 
-ghost use Rattle.std.specs.Prelude.{◌≡◌, ◌<◌, IfOk, IfSome, Some, false, true, is_none, is_some};
-ghost use Rattle.std.specs.Prelude.{length, map};
-ghost use Rattle.std.specs.List.{list_all};
-ghost use Rattle.catalog_core.specs.create.Creation.{has_bad_column, has_unequal_lists};
-ghost use Rattle.catalog_core.specs.create.Creation.{is_bad_type};
-ghost use Rattle.catalog_core.specs.create.Creation.{lacks_parent, parent_of, some_match};
-ghost use Rattle.catalog_core.specs.create.Creation.{some_own_match};
+ghost use Rattle.std.specs.Prelude.{◌∷◌, ◌≡◌, ◌<◌, [], IfOk, IfSome, Some, false, true, is_none};
+ghost use Rattle.std.specs.Prelude.{is_some, length, map};
+ghost use Rattle.std.specs.List.{list_all, list_any};
+ghost use Rattle.sql_statements.specs.declared.create.KeyElement.{KeyElement};
+ghost use Rattle.sql_statements.specs.declared.create.PeriodElement.{PeriodElement};
+ghost use Rattle.catalog_core.specs.create.Creation.{has_bad_column, is_bad_type, lacks_parent};
+ghost use Rattle.catalog_core.specs.create.Creation.{some_match, some_own_match};
 ghost use Rattle.catalog_core.specs.create.Creation.{some_parent_match};
-ghost use Rattle.catalog_core.specs.create.Definition.{Defines, column_parts, declared_column};
-ghost use Rattle.catalog_core.specs.create.Definition.{declared_kind, declared_reference};
-ghost use Rattle.catalog_core.specs.create.Definition.{own_place};
-ghost use Rattle.catalog_core.specs.create.Definition.{reference_parts};
+ghost use Rattle.catalog_core.specs.create.Definition.{column_parts, declared_column};
+ghost use Rattle.catalog_core.specs.create.Definition.{declared_key, declared_kind};
+ghost use Rattle.catalog_core.specs.create.Definition.{declared_period, declared_reference};
+ghost use Rattle.catalog_core.specs.create.Definition.{is_reference_if_equal, own_place};
+ghost use Rattle.catalog_core.specs.create.Definition.{parent_of, reference_parts};
 ghost use Rattle.catalog_core.specs.table.IsDefinition.{are_places, is_reference};
 ghost use Rattle.catalog_core.specs.Limits.{number_limit};
 ghost use Rattle.catalog_core.specs.table.TableWords.{def_place, some_def_match};
@@ -26,7 +28,7 @@ use sql_statements::{ColumnElement, CreateTable, Generated, Name, ReferenceEleme
 use std::alloc::Global;
 
 /// The place of the statement's column with a name.
-fn own_place(create: &CreateTable, name: &Name) -> Option<usize>
+pub fn own_place(create: &CreateTable, name: &Name) -> Option<usize>
     ensures { result ≡ own_place create.now name.now }
 {
     place_among(create.columns.as_slice(), name)
@@ -72,7 +74,7 @@ fn declared_column(alloc: Global, element: &ColumnElement) -> Result<Column, Mem
 }
 
 /// The declared columns.
-fn declared_columns(alloc: Global, create: &CreateTable) -> Result<Vec<Column>, Memory>
+pub fn declared_columns(alloc: Global, create: &CreateTable) -> Result<Vec<Column>, Memory>
     requires { has_bad_column create.now ≡ false }
     ensures { IfOk result
         (λ v. map declared_column create.now.columns ≡ map column_parts v.items) }
@@ -84,7 +86,7 @@ fn declared_columns(alloc: Global, create: &CreateTable) -> Result<Vec<Column>, 
     Ok(columns)
 }
 
-/// A reference by numbers.
+/// A reference by numbers. Its two lists may be of unequal length.
 #[tactic(auto, unfolding(crate::specs::create::Definition::declared_reference, crate::specs::table::TableWords::table_of_name))]
 fn declared_reference(
     alloc: Global,
@@ -95,10 +97,10 @@ fn declared_reference(
     requires there { is_none (parent_of catalog.now.tables element.now) ≡ false }
     requires own { some_own_match create.now Zero element.now.columns ≡ false }
     requires keys { some_parent_match catalog.now.tables Zero element.now ≡ false }
-    requires equal { length element.now.columns ≡ length element.now.parent_columns }
     ensures value { IfOk result
         (λ x. declared_reference catalog.now.tables create.now element.now ≡ reference_parts x) }
-    ensures kept { IfOk result (λ x. is_reference (length create.now.columns) x ≡ true) }
+    ensures kept { IfOk result
+        (λ x. is_reference_if_equal (length create.now.columns) x ≡ true) }
 {
     let Some((parent, table)) = catalog.table_named(&element.parent) else {
         unreachable!()
@@ -113,19 +115,18 @@ fn declared_reference(
 }
 
 /// The references by numbers.
-fn declared_references(
+pub fn declared_references(
     alloc: Global,
     catalog: &Catalog,
     create: &CreateTable,
 ) -> Result<Vec<Reference>, Memory>
     requires there { lacks_parent catalog.now.tables create.now ≡ false }
     requires names { some_match catalog.now.tables create.now Zero ≡ false }
-    requires equal { has_unequal_lists create.now ≡ false }
     ensures value { IfOk result
         (λ v. map (declared_reference catalog.now.tables create.now) create.now.references
         ≡ map reference_parts v.items) }
     ensures kept { IfOk result
-        (λ v. list_all (is_reference (length create.now.columns)) v.items ≡ true) }
+        (λ v. list_all (is_reference_if_equal (length create.now.columns)) v.items ≡ true) }
 {
     let mut references = Vec::new(alloc);
     for element in create.references.as_slice() {
@@ -134,15 +135,30 @@ fn declared_references(
     Ok(references)
 }
 
-/// The definition that a sound CREATE gives.
-pub fn build(alloc: Global, catalog: &Catalog, create: &CreateTable) -> Result<TableDef, Memory>
+/// The definition with these columns and references.
+pub fn build(
+    alloc: Global,
+    create: &CreateTable,
+    columns: Vec<Column>,
+    references: Vec<Reference>,
+) -> Result<TableDef, Memory>
     requires period { length create.now.periods ≡ 1 }
     requires key { length create.now.keys ≡ 1 }
-    requires columns { has_bad_column create.now ≡ false }
-    requires parents { lacks_parent catalog.now.tables create.now ≡ false }
-    requires names { some_match catalog.now.tables create.now Zero ≡ false }
-    requires equal { has_unequal_lists create.now ≡ false }
-    ensures { IfOk result (λ d. Defines catalog.now.tables create.now d) }
+    requires types { has_bad_column create.now ≡ false }
+    requires columns { map declared_column create.now.columns ≡ map column_parts columns.items }
+    requires sides { list_any
+        (λ (x : PeriodElement). some_own_match create.now Zero (x.start ∷ x.end ∷ []))
+        create.now.periods ≡ false }
+    requires keys { list_any (λ (x : KeyElement). some_own_match create.now Zero x.columns)
+        create.now.keys ≡ false }
+    requires references { list_all (is_reference (length create.now.columns)) references.items ≡ true }
+    ensures name { IfOk result (λ d. d.name ≡ create.now.name) }
+    ensures columns { IfOk result (λ d. d.columns ≡ columns.items) }
+    ensures period { IfOk result (λ d. map (declared_period create.now) create.now.periods
+        ≡ (d.period.name, Some d.period.start, Some d.period.end) ∷ []) }
+    ensures key { IfOk result
+        (λ d. map (declared_key create.now) create.now.keys ≡ map (λ i. Some i) d.key ∷ []) }
+    ensures references { IfOk result (λ d. d.references ≡ references.items) }
 {
     let [period] = create.periods.as_slice() else {
         unreachable!()
@@ -156,9 +172,7 @@ pub fn build(alloc: Global, catalog: &Catalog, create: &CreateTable) -> Result<T
     let Some(end) = own_place(create, &period.end) else {
         unreachable!()
     };
-    let columns = declared_columns(alloc, create)?;
     let places = own_places(alloc, create, key.columns.as_slice())?;
-    let references = declared_references(alloc, catalog, create)?;
     Ok(TableDef {
         name: create.name.copy(alloc)?,
         columns: Items::from_vec(columns),

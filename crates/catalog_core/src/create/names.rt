@@ -2,29 +2,27 @@
 //! of periods and keys, so no check is quadratic in them: the periods are counted by their names
 //! once, and what keys name is sought among the columns, which are few.
 
-ghost use Rattle.std.specs.Prelude.{◌≡◌, bytes_eq, false, option_copied};
+ghost use Rattle.std.specs.Prelude.{◌≡◌, bytes_eq, option_copied};
 ghost use Rattle.std.specs.List.{list_any};
 ghost use Rattle.catalog_core.specs.create.Creation.{exceeds_limits, is_ambiguous};
-ghost use Rattle.catalog_core.specs.create.Creation.{is_no_value_column};
+ghost use Rattle.catalog_core.specs.create.Creation.{is_keyed, is_no_value_column};
 ghost use Rattle.catalog_core.specs.create.Creation.{is_shared, is_there, keys_period_column};
 ghost use Rattle.catalog_core.specs.create.Creation.{lacks_name};
 ghost use Rattle.catalog_core.specs.create.Creation.{lacks_parent, lacks_period};
 ghost use Rattle.catalog_core.specs.create.Creation.{names_other_period};
-ghost use Rattle.catalog_core.specs.create.Creation.{parent_of, repeats_name, some_match};
+ghost use Rattle.catalog_core.specs.create.Creation.{repeats_name, some_match};
 ghost use Rattle.catalog_core.specs.create.Creation.{some_parent_match};
-ghost use Rattle.catalog_core.specs.create.Keyed.{is_keyed, some_keyed_non_value_column};
+ghost use Rattle.catalog_core.specs.create.Definition.{parent_of};
 ghost use Rattle.catalog_core.specs.create.PeriodCounts.{AreCounts};
-ghost use Rattle.catalog_core.specs.declared.table.match_counts.MatchCount.TheVariants.{Zero};
 
 use crate::create::period_counts::count_of;
 use crate::limits::{MOST_COLUMNS, MOST_REFERENCES, MOST_TABLES};
 use crate::table::TableDef;
 use crate::table::catalog::Catalog;
 use crate::table::match_counts::{
-    ColumnSort, MatchCount, either_matches, has_sort, own_matches, repeats, some_def_match,
-    some_own_match,
+    MatchCount, either_matches, own_matches, repeats, some_def_match, some_own_match,
 };
-use sql_statements::{CreateTable, Name, ReferenceElement};
+use sql_statements::{ColumnElement, CreateTable, Name, ReferenceElement};
 use std::collections::BTreeMap;
 
 /// The table that a reference names.
@@ -215,22 +213,22 @@ pub fn repeats_name(create: &CreateTable, counts: &BTreeMap<&str, usize>) -> boo
     false
 }
 
-/// Whether a name is a period or system column's.
+/// Whether a column is a period or system column.
 #[tactic(auto, unfolding(crate::specs::create::Creation::is_no_value_column))]
-pub fn is_no_value_column(create: &CreateTable, name: &Name) -> bool
-    ensures { result ≡ is_no_value_column create.now name.now }
+fn is_no_value_column(create: &CreateTable, column: &ColumnElement) -> bool
+    ensures { result ≡ is_no_value_column create.now column.now }
 {
     for period in create.periods.as_slice() {
-        if name.is(&period.start) || name.is(&period.end) {
+        if column.name.is(&period.start) || column.name.is(&period.end) {
             return true;
         }
     }
     for system in create.system_periods.as_slice() {
-        if name.is(&system.start) || name.is(&system.end) {
+        if column.name.is(&system.start) || column.name.is(&system.end) {
             return true;
         }
     }
-    has_sort(create, ColumnSort::System, name)
+    column.generated.is_some()
 }
 
 /// Whether a name is in a list.
@@ -246,7 +244,7 @@ fn is_among(names: &[Name], name: &Name) -> bool
 }
 
 /// Whether a name is among the columns of a key or the own columns of a reference.
-#[tactic(auto, unfolding(crate::specs::create::Keyed::is_keyed))]
+#[tactic(auto, unfolding(crate::specs::create::Creation::is_keyed))]
 fn is_keyed(create: &CreateTable, name: &Name) -> bool
     ensures { result ≡ is_keyed create.now name.now }
 {
@@ -263,24 +261,15 @@ fn is_keyed(create: &CreateTable, name: &Name) -> bool
     false
 }
 
-/// Whether one of the table's columns is keyed and no value column.
-#[tactic(auto, unfolding(crate::specs::create::Keyed::some_keyed_non_value_column))]
-fn some_keyed_non_value_column(create: &CreateTable) -> bool
-    ensures { result ≡ some_keyed_non_value_column create.now }
+/// Whether a period or system column is in a key or in the columns of a reference.
+#[tactic(auto, unfolding(crate::specs::create::Creation::keys_period_column))]
+pub fn keys_period_column(create: &CreateTable) -> bool
+    ensures { result ≡ keys_period_column create.now }
 {
     for column in create.columns.as_slice() {
-        if is_keyed(create, &column.name) && is_no_value_column(create, &column.name) {
+        if is_keyed(create, &column.name) && is_no_value_column(create, column) {
             return true;
         }
     }
     false
-}
-
-/// Whether a period or system column is in the key or in the columns of a reference, all of
-/// which exist.
-pub fn keys_period_column(catalog: &Catalog, create: &CreateTable) -> bool
-    requires { some_match catalog.now.tables create.now Zero ≡ false }
-    ensures { result ≡ keys_period_column create.now }
-{
-    some_keyed_non_value_column(create)
 }

@@ -1,61 +1,90 @@
-//! CREATE TABLE: what its periods, key, types and references decide. No test takes memory.
+//! CREATE TABLE: what its periods, key, types and references decide, with its columns and references
+//! by places. No test takes memory.
 
-ghost use Rattle.std.specs.Prelude.{◌≡◌};
-ghost use Rattle.catalog_core.specs.create.Creation.{are_key, has_bad_column, has_bad_period};
+ghost use Rattle.std.specs.Prelude.{◌≡◌, false, map};
+ghost use Rattle.catalog_core.specs.create.Creation.{has_bad_column, has_bad_period};
 ghost use Rattle.catalog_core.specs.create.Creation.{has_bad_system_period, has_other_period};
-ghost use Rattle.catalog_core.specs.create.Creation.{has_unequal_lists, have_other_kinds, is_at};
-ghost use Rattle.catalog_core.specs.create.Creation.{is_bad_definition, is_bad_type, is_key_name};
-ghost use Rattle.catalog_core.specs.create.Creation.{is_named, is_used_otherwise};
-ghost use Rattle.catalog_core.specs.create.Creation.{lacks_one_of_each, names_no_key};
-ghost use Rattle.catalog_core.specs.create.Creation.{names_other_kind, references_no_key};
-ghost use Rattle.catalog_core.specs.create.Creation.{references_other_kind};
+ghost use Rattle.catalog_core.specs.create.Creation.{has_unequal_lists, is_bad_definition};
+ghost use Rattle.catalog_core.specs.create.Creation.{is_bad_type, is_other, is_used_otherwise};
+ghost use Rattle.catalog_core.specs.create.Creation.{lacks_one_of_each, placed_conditions};
+ghost use Rattle.catalog_core.specs.create.Creation.{references_no_key, references_other_kind};
+ghost use Rattle.catalog_core.specs.create.Definition.{columns_of, declared_reference};
+ghost use Rattle.catalog_core.specs.create.Definition.{reference_parts};
+ghost use Rattle.catalog_core.specs.create.Places.{is_row_end, is_row_start};
+ghost use Rattle.catalog_core.specs.RefusalConditions.{first_holding};
 
-use crate::create::names::{names_other_period, parent_of};
+use crate::create::builder::own_place;
+use crate::create::names::names_other_period;
+use crate::create::places::{
+    are_dates, declared_at, has_system_columns, some_refer_to_no_key, some_refer_to_other_kind,
+};
 use crate::limits::{GREATEST_PRECISION, MOST_CODE_POINTS};
-use crate::table::TableDef;
 use crate::table::catalog::Catalog;
-use crate::table::kinds::{def_kind, differ, own_kind};
-use crate::table::match_counts::{ColumnSort, has_sort, sort_count};
-use sql_statements::{CreateTable, Name, ReferenceElement, TypeName};
+use crate::table::{Column, ColumnKind, Reference};
+use period_core::Refusal;
+use sql_statements::{CreateTable, Name, TypeName};
 
 /// Whether there is not exactly one of each: application period, SYSTEM_TIME period, ROW START
 /// column, ROW END column and PRIMARY KEY.
 #[tactic(auto, unfolding(crate::specs::create::Creation::lacks_one_of_each))]
-pub fn lacks_one_of_each(create: &CreateTable) -> bool
+fn lacks_one_of_each(create: &CreateTable, columns: &[Column]) -> bool
+    requires { columns.now ≡ columns_of create.now }
     ensures { result ≡ lacks_one_of_each create.now }
 {
     create.periods.len() != 1
         || create.system_periods.len() != 1
-        || sort_count(create, ColumnSort::RowStart) != 1
-        || sort_count(create, ColumnSort::RowEnd) != 1
+        || !has_system_columns(columns)
         || create.keys.len() != 1
 }
 
-/// Whether the application period's columns are not two different plain DATE columns.
+/// Whether the application period's columns are not two different DATE columns.
 #[tactic(auto, unfolding(crate::specs::create::Creation::has_bad_period))]
-pub fn has_bad_period(create: &CreateTable) -> bool
+fn has_bad_period(create: &CreateTable, columns: &[Column]) -> bool
+    requires { columns.now ≡ columns_of create.now }
     ensures { result ≡ has_bad_period create.now }
 {
     for x in create.periods.as_slice() {
-        if x.start.is(&x.end)
-            || !has_sort(create, ColumnSort::PlainDate, &x.start)
-            || !has_sort(create, ColumnSort::PlainDate, &x.end)
-        {
+        if !are_dates(
+            columns,
+            own_place(create, &x.start),
+            own_place(create, &x.end),
+        ) {
             return true;
         }
     }
     false
 }
 
+/// Whether a name is not a ROW START column's.
+fn is_no_start(create: &CreateTable, columns: &[Column], name: &Name) -> bool
+    requires { columns.now ≡ columns_of create.now }
+    ensures { result ≡ is_other is_row_start create.now name.now }
+{
+    match declared_at(columns, own_place(create, name)) {
+        Some(ColumnKind::RowStart(_)) => false,
+        _ => true,
+    }
+}
+
+/// Whether a name is not a ROW END column's.
+fn is_no_end(create: &CreateTable, columns: &[Column], name: &Name) -> bool
+    requires { columns.now ≡ columns_of create.now }
+    ensures { result ≡ is_other is_row_end create.now name.now }
+{
+    match declared_at(columns, own_place(create, name)) {
+        Some(ColumnKind::RowEnd(_)) => false,
+        _ => true,
+    }
+}
+
 /// Whether the SYSTEM_TIME period is not over the ROW START and the ROW END column.
 #[tactic(auto, unfolding(crate::specs::create::Creation::has_bad_system_period))]
-pub fn has_bad_system_period(create: &CreateTable) -> bool
+fn has_bad_system_period(create: &CreateTable, columns: &[Column]) -> bool
+    requires { columns.now ≡ columns_of create.now }
     ensures { result ≡ has_bad_system_period create.now }
 {
     for x in create.system_periods.as_slice() {
-        if !has_sort(create, ColumnSort::RowStart, &x.start)
-            || !has_sort(create, ColumnSort::RowEnd, &x.end)
-        {
+        if is_no_start(create, columns, &x.start) || is_no_end(create, columns, &x.end) {
             return true;
         }
     }
@@ -64,7 +93,7 @@ pub fn has_bad_system_period(create: &CreateTable) -> bool
 
 /// Whether a type does not go with its column, or its number is out of range.
 #[tactic(auto, unfolding(crate::specs::create::Creation::is_bad_type))]
-pub fn is_bad_type(kind: TypeName, generated: bool) -> bool
+fn is_bad_type(kind: TypeName, generated: bool) -> bool
     ensures { result ≡ is_bad_type kind generated }
 {
     match kind {
@@ -91,7 +120,7 @@ pub fn has_bad_column(create: &CreateTable) -> bool
 
 /// Whether a key or reference is over another period.
 #[tactic(auto, unfolding(crate::specs::create::Creation::is_used_otherwise))]
-pub fn is_used_otherwise(create: &CreateTable, period: &Name) -> bool
+fn is_used_otherwise(create: &CreateTable, period: &Name) -> bool
     ensures { result ≡ is_used_otherwise create.now period.now }
 {
     for key in create.keys.as_slice() {
@@ -109,7 +138,7 @@ pub fn is_used_otherwise(create: &CreateTable, period: &Name) -> bool
 
 /// Whether the key or a reference is over a period that is not the application period.
 #[tactic(auto, unfolding(crate::specs::create::Creation::has_other_period))]
-pub fn has_other_period(catalog: &Catalog, create: &CreateTable) -> bool
+fn has_other_period(catalog: &Catalog, create: &CreateTable) -> bool
     ensures { result ≡ has_other_period catalog.now.tables create.now }
 {
     for x in create.periods.as_slice() {
@@ -125,101 +154,9 @@ pub fn has_other_period(catalog: &Catalog, create: &CreateTable) -> bool
     false
 }
 
-/// Whether the column at a place has the name.
-#[tactic(auto, unfolding(crate::specs::create::Creation::is_at))]
-pub fn is_at(table: &TableDef, place: usize, name: &Name) -> bool
-    ensures { result ≡ is_at table.now place name.now }
-{
-    match table.columns.as_slice().get(place) {
-        Some(column) => name.is(&column.name),
-        None => false,
-    }
-}
-
-/// Whether a key column has the name.
-#[tactic(auto, unfolding(crate::specs::create::Creation::is_key_name))]
-pub fn is_key_name(table: &TableDef, name: &Name) -> bool
-    ensures { result ≡ is_key_name table.now name.now }
-{
-    for place in table.key.as_slice() {
-        if is_at(table, *place, name) {
-            return true;
-        }
-    }
-    false
-}
-
-/// Whether a column of the table is among the names.
-#[tactic(auto, unfolding(crate::specs::create::Creation::is_named))]
-pub fn is_named(table: &TableDef, names: &[Name], place: usize) -> bool
-    ensures { result ≡ is_named table.now names.now place }
-{
-    for x in names {
-        if is_at(table, place, x) {
-            return true;
-        }
-    }
-    false
-}
-
-/// Whether the names are the key's columns, in some order.
-#[tactic(auto, unfolding(crate::specs::create::Creation::are_key))]
-pub fn are_key(table: &TableDef, names: &[Name]) -> bool
-    ensures { result ≡ are_key table.now names.now }
-{
-    for x in names {
-        if !is_key_name(table, x) {
-            return false;
-        }
-    }
-    for place in table.key.as_slice() {
-        if !is_named(table, names, *place) {
-            return false;
-        }
-    }
-    true
-}
-
-/// Whether a reference names no key of its parent.
-#[tactic(auto, unfolding(crate::specs::create::Creation::names_no_key))]
-pub fn names_no_key(catalog: &Catalog, reference: &ReferenceElement) -> bool
-    ensures { result ≡ names_no_key catalog.now.tables reference.now }
-{
-    match parent_of(catalog, reference) {
-        Some(table) => !are_key(table, reference.parent_columns.as_slice()),
-        None => false,
-    }
-}
-
-/// Whether a reference names columns that are not its parent's key.
-#[tactic(auto, unfolding(crate::specs::create::Creation::references_no_key))]
-pub fn references_no_key(catalog: &Catalog, create: &CreateTable) -> bool
-    ensures { result ≡ references_no_key catalog.now.tables create.now }
-{
-    for x in create.references.as_slice() {
-        if names_no_key(catalog, x) {
-            return true;
-        }
-    }
-    false
-}
-
-/// Whether the definition is not one that a table may have.
-#[tactic(auto, unfolding(crate::specs::create::Creation::is_bad_definition))]
-pub fn is_bad_definition(catalog: &Catalog, create: &CreateTable) -> bool
-    ensures { result ≡ is_bad_definition catalog.now.tables create.now }
-{
-    lacks_one_of_each(create)
-        || has_bad_period(create)
-        || has_bad_system_period(create)
-        || has_bad_column(create)
-        || has_other_period(catalog, create)
-        || references_no_key(catalog, create)
-}
-
 /// Whether the two lists of a reference are of unequal length.
 #[tactic(auto, unfolding(crate::specs::create::Creation::has_unequal_lists))]
-pub fn has_unequal_lists(create: &CreateTable) -> bool
+fn has_unequal_lists(create: &CreateTable) -> bool
     ensures { result ≡ has_unequal_lists create.now }
 {
     for x in create.references.as_slice() {
@@ -230,53 +167,72 @@ pub fn has_unequal_lists(create: &CreateTable) -> bool
     false
 }
 
-/// Whether columns at the same place have two kinds.
-#[tactic(auto, unfolding(crate::specs::create::Creation::have_other_kinds))]
-pub fn have_other_kinds(
-    create: &CreateTable,
-    table: &TableDef,
-    own: &[Name],
-    others: &[Name],
-) -> bool
-    ensures { result ≡ have_other_kinds create.now table.now own.now others.now }
+/// Whether some reference is to columns that are not its parent's key.
+fn references_no_key(catalog: &Catalog, create: &CreateTable, references: &[Reference]) -> bool
+    requires { map (declared_reference catalog.now.tables create.now) create.now.references
+        ≡ map reference_parts references.now }
+    ensures { result ≡ references_no_key catalog.now.tables create.now }
 {
-    for i in 0..own.len().min(others.len()) {
-        if differ(own_kind(create, &own[i]), def_kind(table, &others[i])) {
-            return true;
-        }
-    }
-    false
+    some_refer_to_no_key(catalog, references)
 }
 
-/// Whether this reference has a column of another kind than the parent's column in its place.
-#[tactic(auto, unfolding(crate::specs::create::Creation::names_other_kind))]
-pub fn names_other_kind(
+/// Whether some reference has a column of another kind than the parent's in its place.
+fn references_other_kind(
     catalog: &Catalog,
     create: &CreateTable,
-    reference: &ReferenceElement,
+    columns: &[Column],
+    references: &[Reference],
 ) -> bool
-    ensures { result ≡ names_other_kind catalog.now.tables create.now reference.now }
-{
-    match parent_of(catalog, reference) {
-        Some(table) => have_other_kinds(
-            create,
-            table,
-            reference.columns.as_slice(),
-            reference.parent_columns.as_slice(),
-        ),
-        None => false,
-    }
-}
-
-/// Whether some reference has a column of another kind than the parent's column in its place.
-#[tactic(auto, unfolding(crate::specs::create::Creation::references_other_kind))]
-pub fn references_other_kind(catalog: &Catalog, create: &CreateTable) -> bool
+    requires columns { columns.now ≡ columns_of create.now }
+    requires references { map (declared_reference catalog.now.tables create.now)
+        create.now.references ≡ map reference_parts references.now }
     ensures { result ≡ references_other_kind catalog.now.tables create.now }
 {
-    for x in create.references.as_slice() {
-        if names_other_kind(catalog, create, x) {
-            return true;
-        }
+    some_refer_to_other_kind(catalog, columns, references)
+}
+
+/// Whether the definition, whose types are not refused, is not one that a table may have.
+#[tactic(auto, unfolding(crate::specs::create::Creation::is_bad_definition))]
+fn is_bad_definition(
+    catalog: &Catalog,
+    create: &CreateTable,
+    columns: &[Column],
+    references: &[Reference],
+) -> bool
+    requires types { has_bad_column create.now ≡ false }
+    requires columns { columns.now ≡ columns_of create.now }
+    requires references { map (declared_reference catalog.now.tables create.now)
+        create.now.references ≡ map reference_parts references.now }
+    ensures { result ≡ is_bad_definition catalog.now.tables create.now }
+{
+    lacks_one_of_each(create, columns)
+        || has_bad_period(create, columns)
+        || has_bad_system_period(create, columns)
+        || has_other_period(catalog, create)
+        || references_no_key(catalog, create, references)
+}
+
+/// The first refusal whose condition holds, of those that need the places of names.
+pub fn placed_fault(
+    catalog: &Catalog,
+    create: &CreateTable,
+    columns: &[Column],
+    references: &[Reference],
+) -> Option<Refusal>
+    requires types { has_bad_column create.now ≡ false }
+    requires columns { columns.now ≡ columns_of create.now }
+    requires references { map (declared_reference catalog.now.tables create.now)
+        create.now.references ≡ map reference_parts references.now }
+    ensures { result ≡ first_holding (placed_conditions catalog.now.tables create.now) }
+{
+    if is_bad_definition(catalog, create, columns, references) {
+        return Some(Refusal::BadDefinition);
     }
-    false
+    if has_unequal_lists(create) {
+        return Some(Refusal::ColumnCount);
+    }
+    if references_other_kind(catalog, create, columns, references) {
+        return Some(Refusal::TypeMismatch);
+    }
+    None
 }

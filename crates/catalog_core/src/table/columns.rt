@@ -1,32 +1,21 @@
-//! The places of a table's columns, and which are DATE columns or value columns: all columns but
-//! its application period's and its system columns.
+//! The places of a table's columns, and which are value columns: all columns but its application
+//! period's and its system columns.
 
-ghost use Rattle.std.specs.Prelude.{◌≡◌, ◌&&◌, ◌<◌, IfOk, IfSome, Some, bytes_eq, false};
-ghost use Rattle.std.specs.Prelude.{map, not, true};
+ghost use Rattle.std.specs.Prelude.{◌≡◌, ◌&&◌, IfOk, bytes_eq, false, map};
+ghost use Rattle.std.specs.Prelude.{not, true};
 ghost use Rattle.catalog_core.specs.Limits.{number_limit};
 ghost use Rattle.catalog_core.specs.query.Selection.{names_non_value_column, value_position};
 ghost use Rattle.catalog_core.specs.table.IsDefinition.{are_places};
-ghost use Rattle.catalog_core.specs.table.TableWords.{def_place, has_date_period};
-ghost use Rattle.catalog_core.specs.table.TableWords.{has_distinct_names};
-ghost use Rattle.catalog_core.specs.table.TableWords.{is_date_column, is_value_column};
+ghost use Rattle.catalog_core.specs.table.TableWords.{def_place, is_value_column};
 ghost use Rattle.catalog_core.specs.table.TableWords.{some_def_match};
 ghost use Rattle.catalog_core.specs.declared.table.match_counts.MatchCount.TheVariants.{Zero};
 
-use crate::table::kinds::{is_system, kind_of_column, same_kind};
-use crate::table::match_counts::{MatchCount, def_matches};
-use crate::table::named::{place_among, places_among};
-use crate::table::{Column, TableDef, ValueKind};
+use crate::table::kinds::is_system;
+use crate::table::named::places_among;
+use crate::table::{Column, TableDef};
 use period_core::Memory;
 use sql_statements::Name;
 use std::alloc::Global;
-
-/// The place of a table's column with a name.
-pub fn def_place(table: &TableDef, name: &Name) -> Option<usize>
-    ensures value { result ≡ def_place table.now name.now }
-    ensures small { IfSome result (λ place. place < number_limit) }
-{
-    place_among(table.columns.as_slice(), name)
-}
 
 /// The places of a table's columns with the names.
 pub fn def_places(alloc: Global, table: &TableDef, names: &[Name]) -> Result<Vec<usize>, Memory>
@@ -36,48 +25,6 @@ pub fn def_places(alloc: Global, table: &TableDef, names: &[Name]) -> Result<Vec
     ensures small { IfOk result (λ v. are_places number_limit v.items ≡ true) }
 {
     places_among(alloc, table.columns.as_slice(), names)
-}
-
-/// Whether the column at a place is a DATE column, and is found by its name.
-#[tactic(auto, unfolding(crate::specs::table::TableWords::is_date_column))]
-pub fn is_date_column(table: &TableDef, place: usize) -> bool
-    ensures { result ≡ is_date_column table.now place }
-{
-    let Some(column) = table.columns.as_slice().get(place) else {
-        return false;
-    };
-    let Some(named) = def_place(table, &column.name) else {
-        return false;
-    };
-    same_kind(kind_of_column(column.kind), ValueKind::Date) && named == place
-}
-
-impl TableDef {
-    /// Whether its application period is over two different DATE columns, each the first of its
-    /// name. So is the period of each definition that `define` gives; the period of one that
-    /// `decode_def` gives may be over other columns.
-    #[tactic(auto, unfolding(crate::specs::table::TableWords::has_date_period))]
-    pub(crate) fn has_date_period(&self) -> bool
-        ensures { result ≡ has_date_period self.now }
-    {
-        self.period.start != self.period.end
-            && is_date_column(self, self.period.start)
-            && is_date_column(self, self.period.end)
-    }
-
-    /// Whether no two of its columns share a name, as in each definition that `define` gives. In
-    /// those that `decode_def` gives two may.
-    #[tactic(auto, unfolding(crate::specs::table::TableWords::has_distinct_names))]
-    pub(crate) fn has_distinct_names(&self) -> bool
-        ensures { result ≡ has_distinct_names self.now }
-    {
-        for x in self.columns.as_slice() {
-            if MatchCount::Many.is(def_matches(self, &x.name)) {
-                return false;
-            }
-        }
-        true
-    }
 }
 
 /// Whether the column that is declared at a place is a value column.

@@ -1,15 +1,14 @@
 //! The kinds of columns and values, by which they are compared.
 
 ghost use Rattle.std.specs.Prelude.{◌≡◌};
-ghost use Rattle.catalog_core.specs.create.Creation.{own_kind};
-ghost use Rattle.catalog_core.specs.table.Kinds.{differ, kind_of_column, kind_of_type};
-ghost use Rattle.catalog_core.specs.table.Kinds.{kind_of_value, same_kind};
+ghost use Rattle.catalog_core.specs.table.Kinds.{differ, kind_of_column, kind_of_value};
+ghost use Rattle.catalog_core.specs.table.Kinds.{same_kind};
 ghost use Rattle.catalog_core.specs.table.TableWords.{def_kind, is_system};
 
 use crate::table::named::find_among;
 use crate::table::{ColumnKind, TableDef, ValueKind};
 use period_core::Value;
-use sql_statements::{CreateTable, Name, TypeName};
+use sql_statements::Name;
 
 /// Whether it is a system column's.
 pub fn is_system(kind: ColumnKind) -> bool
@@ -21,19 +20,6 @@ pub fn is_system(kind: ColumnKind) -> bool
         ColumnKind::Date => false,
         ColumnKind::RowStart(_) => true,
         ColumnKind::RowEnd(_) => true,
-    }
-}
-
-/// The kind of what a type holds.
-#[tactic(auto, unfolding(crate::specs::table::Kinds::kind_of_type))]
-pub fn kind_of_type(kind: TypeName) -> ValueKind
-    ensures { result ≡ kind_of_type kind }
-{
-    match kind {
-        TypeName::Integer => ValueKind::Integer,
-        TypeName::Date => ValueKind::Date,
-        TypeName::Varchar(_) => ValueKind::Text,
-        TypeName::Timestamp(_) => ValueKind::Moment,
     }
 }
 
@@ -85,17 +71,6 @@ pub fn differ(left: Option<ValueKind>, right: Option<ValueKind>) -> bool
     match (left, right) {
         (Some(x), Some(y)) => !same_kind(x, y),
         _ => false,
-    }
-}
-
-/// The kind of the statement's column of this name.
-#[tactic(auto, unfolding(crate::specs::create::Creation::own_kind))]
-pub fn own_kind(create: &CreateTable, name: &Name) -> Option<ValueKind>
-    ensures { result ≡ own_kind create.now name.now }
-{
-    match find_among(create.columns.as_slice(), name) {
-        Some(x) => Some(kind_of_type(x.kind)),
-        None => None,
     }
 }
 

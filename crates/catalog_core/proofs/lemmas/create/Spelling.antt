@@ -1,7 +1,8 @@
 -- The CREATE that spells a definition, with names for places.
 -- If a name is sought that is missing, the table's own name is in its place: no CREATE that is
 -- accepted gives such a definition.
-use Rattle.std.specs.Prelude.{◌∷◌, ℕ, List, [], Option, Some, None, find, map, slice_get, unwrap_or}
+use Rattle.std.specs.Prelude.{◌∷◌, ℕ, Bool, List, [], Option, Some, None, map, slice_get, unwrap_or}
+use Rattle.std.specs.List.{position_or_len}
 use Rattle.sql_statements.specs.declared.create.TypeName.{TypeName}
 use Rattle.sql_statements.specs.declared.create.TypeName.TheVariants as type_name
 use Rattle.sql_statements.specs.declared.create.Generated.{Generated}
@@ -12,11 +13,9 @@ use Rattle.sql_statements.specs.declared.create.PeriodElement.{PeriodElement}
 use Rattle.sql_statements.specs.declared.create.SystemElement.{SystemElement}
 use Rattle.sql_statements.specs.declared.create.KeyElement.{KeyElement}
 use Rattle.sql_statements.specs.declared.create.ReferenceElement.{ReferenceElement}
-use Rattle.catalog_core.specs.table.Matches.{is_of_sort}
+use Rattle.catalog_core.specs.create.Places.{is_row_end, is_row_start}
 use Rattle.catalog_core.specs.table.Naming.{Name}
 use Rattle.catalog_core.specs.table.TableWords.{table_of}
-use Rattle.catalog_core.specs.declared.table.match_counts.ColumnSort.{ColumnSort}
-use Rattle.catalog_core.specs.declared.table.match_counts.ColumnSort.TheVariants as sort
 use Rattle.catalog_core.specs.declared.table.Column.{Column}
 use Rattle.catalog_core.specs.declared.table.ColumnKind.{ColumnKind}
 use Rattle.catalog_core.specs.declared.table.ColumnKind.TheVariants.{Integer, Varchar, Date}
@@ -54,73 +53,58 @@ name_or named other (Some x) = named x
 abbrev pub name_at : {X : Type 0} → (X → Name) → Name → List X → ℕ → Name
 name_at named other xs place = name_or named other (slice_get xs place)
 
--- the name of the first column of a sort
-abbrev pub name_of_sort : ColumnSort → Name → List ColumnElement → Name
-name_of_sort wanted other columns =
-    name_or (λ (x : ColumnElement). x.name) other (find (is_of_sort wanted) columns)
+-- the name of the column of a table at a place
+abbrev pub named : Name → TableDef → ℕ → Name
+named other t place = name_at (λ (x : Column). x.name) other t.columns place
 
--- the name of the table's own column at a place, by its columns as they are declared
-abbrev pub own_name : TableDef → List ColumnElement → ℕ → Name
-own_name d columns place = name_at (λ (x : ColumnElement). x.name) d.name columns place
-
--- the name of a parent's column at a place
-abbrev pub parent_name : TableDef → TableDef → ℕ → Name
-parent_name d parent place = name_at (λ (x : Column). x.name) d.name parent.columns place
-
--- the table of this number, or the table itself
-abbrev pub parent_or : List TableDef → TableDef → ℕ → TableDef
-parent_or tables d number = unwrap_or (table_of tables number) d
-
--- a reference to a parent as CREATE TABLE spells it
-abbrev pub reference_to : TableDef → List ColumnElement → TableDef → Reference → ReferenceElement
-reference_to d columns parent r =
-    record {
-      columns = map (own_name d columns) r.own;
-      period = d.period.name;
-      parent = parent.name;
-      parent_columns = map (parent_name d parent) r.keys;
-      parent_period = parent.period.name;
-    }
-
--- a reference as CREATE TABLE spells it
-abbrev pub spelled_reference :
-    List TableDef → TableDef → List ColumnElement → Reference → ReferenceElement
-spelled_reference tables d columns r = reference_to d columns (parent_or tables d r.parent) r
+-- the place of the first column of such a kind
+abbrev pub first_of : (ColumnKind → Bool) → TableDef → ℕ
+first_of test d = position_or_len (λ (x : Column). test x.kind) d.columns
 
 -- the application period as CREATE TABLE spells it
-abbrev pub spelled_period : TableDef → List ColumnElement → PeriodElement
-spelled_period d columns =
+abbrev pub spelled_period : TableDef → PeriodElement
+spelled_period d =
     record {
       name = d.period.name;
-      start = own_name d columns d.period.start;
-      end = own_name d columns d.period.end;
+      start = named d.name d d.period.start;
+      end = named d.name d d.period.end;
     }
 
 -- SYSTEM_TIME as CREATE TABLE spells it
-abbrev pub spelled_system : TableDef → List ColumnElement → SystemElement
-spelled_system d columns =
+abbrev pub spelled_system : TableDef → SystemElement
+spelled_system d =
     record {
-      start = name_of_sort sort.RowStart d.name columns;
-      end = name_of_sort sort.RowEnd d.name columns;
+      start = named d.name d (first_of is_row_start d);
+      end = named d.name d (first_of is_row_end d);
     }
 
 -- the key as CREATE TABLE spells it
-abbrev pub spelled_key : TableDef → List ColumnElement → KeyElement
-spelled_key d columns =
-    record { columns = map (own_name d columns) d.key; period = d.period.name }
+abbrev pub spelled_key : TableDef → KeyElement
+spelled_key d = record { columns = map (named d.name d) d.key; period = d.period.name }
 
--- a CREATE for a definition, by its columns as they are declared
-abbrev pub create_with : List TableDef → TableDef → List ColumnElement → CreateTable
-create_with tables d columns =
+-- a reference to a parent as CREATE TABLE spells it
+abbrev pub reference_to : TableDef → TableDef → Reference → ReferenceElement
+reference_to d parent r =
     record {
-      name = d.name;
-      columns = columns;
-      periods = spelled_period d columns ∷ [];
-      system_periods = spelled_system d columns ∷ [];
-      keys = spelled_key d columns ∷ [];
-      references = map (spelled_reference tables d columns) d.references;
+      columns = map (named d.name d) r.own;
+      period = d.period.name;
+      parent = parent.name;
+      parent_columns = map (named d.name parent) r.keys;
+      parent_period = parent.period.name;
     }
 
--- a CREATE for a definition: no other CREATE that is accepted gives it
+-- a reference as CREATE TABLE spells it, to the table of its number
+abbrev pub spelled_reference : List TableDef → TableDef → Reference → ReferenceElement
+spelled_reference tables d r = reference_to d (unwrap_or (table_of tables r.parent) d) r
+
+-- a CREATE for a definition
 abbrev pub create_of : List TableDef → TableDef → CreateTable
-create_of tables d = create_with tables d (map spelled_column d.columns)
+create_of tables d =
+    record {
+      name = d.name;
+      columns = map spelled_column d.columns;
+      periods = spelled_period d ∷ [];
+      system_periods = spelled_system d ∷ [];
+      keys = spelled_key d ∷ [];
+      references = map (spelled_reference tables d) d.references;
+    }

@@ -1,4 +1,4 @@
-use Rattle.std.proofs.Common.{◌≡◌, ◌<◌, ◌∙◌, ℕ, Some, ap, arith, length, sym}
+use Rattle.std.proofs.Common.{◌<◌, ◌∙◌, ℕ, Some, ap, arith, length, sym}
 use Rattle.std.specs.Prelude.{is_none}
 use Rattle.std.specs.Option.{option_and_then}
 use Rattle.std.proofs.lemmas.Bool.{false≢true}
@@ -7,7 +7,7 @@ use Rattle.catalog_core.proofs.lemmas.table.Named.{table_named}
 use Rattle.catalog_core.proofs.lemmas.judged.Sound.{fails_there}
 use Rattle.catalog_core.specs.create.Creation.{some_parent_match}
 use Rattle.catalog_core.specs.create.Definition.{own_place}
-use Rattle.catalog_core.specs.table.TableWords.{def_place, some_def_match, table_of, table_of_name}
+use Rattle.catalog_core.specs.table.TableWords.{some_def_match, table_of, table_of_name}
 use Rattle.catalog_core.specs.declared.table.match_counts.MatchCount.TheVariants.{Zero}
 use Rattle.catalog_core.specs.declared.table.TableDef.{TableDef}
 use Rattle.catalog_core.proofs.create.builder.declared_reference.Goals as goal
@@ -32,12 +32,8 @@ returns-clause-kept c =
     let own = c.in_ok-own.own.items in
     let keys = c.in_ok-keys.keys.items in
     let own_long = mapped_lengths (own_place create) (λ (i : ℕ). Some i) c.as_slice.result.now own c.in_ok-own.ensures in
-    let keys_long = mapped_lengths (def_place c.in-Some.table.now) (λ (i : ℕ). Some i) c.as_slice-2.result.now keys c.in_ok-keys.ensures.value in
-    let first = ap length c.as_slice.ensures.value in
-    let second = ap length c.as_slice-2.ensures.value in
     let some : 0 < length own = omega (arith, own_long, c.as_slice.ensures.filled) in
-    let long : length own ≡ length keys = omega (arith, own_long, keys_long, first, second, c.requires.equal) in
     rw (c.from_vec.ensures, c.from_vec-2.ensures)
     (reference_kept (length create.columns) (record { parent = c.in-Some.parent; own = own; keys = keys })
     (counts_from_one c.args.catalog.now.tables c.args.element.now.parent c.in-Some.parent c.in-Some.ensures.0)
-    long (some_there own some) (own_all_within create c.as_slice.result.now own c.in_ok-own.ensures) c.in_ok-keys.ensures.small)
+    (some_there own some) (own_all_within create c.as_slice.result.now own c.in_ok-own.ensures) c.in_ok-keys.ensures.small)

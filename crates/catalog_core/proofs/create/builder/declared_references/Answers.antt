@@ -1,11 +1,11 @@
-use Rattle.std.proofs.Common.{◌∙◌, Bool, ap, length, not}
-use Rattle.std.specs.Prelude.{◌==◌}
+use Rattle.std.proofs.Common.{◌∙◌, Bool, ap}
 use Rattle.std.specs.Prelude.{is_none}
 use Rattle.std.specs.List.{list_any}
 use Rattle.sql_statements.specs.declared.create.ReferenceElement.{ReferenceElement}
-use Rattle.catalog_core.proofs.lemmas.create.Shape.{all_match, is_equal}
+use Rattle.catalog_core.proofs.lemmas.create.Shape.{all_match}
 use Rattle.catalog_core.proofs.lemmas.judged.Sound.{fails_at}
-use Rattle.catalog_core.specs.create.Creation.{has_unequal_lists, lacks_parent, parent_of, some_own_match, some_parent_match}
+use Rattle.catalog_core.specs.create.Creation.{lacks_parent, some_own_match, some_parent_match}
+use Rattle.catalog_core.specs.create.Definition.{parent_of}
 use Rattle.catalog_core.specs.declared.table.match_counts.MatchCount.TheVariants.{Zero}
 use Rattle.catalog_core.proofs.create.builder.declared_references.Goals as goal
 
@@ -27,11 +27,3 @@ declared_reference-requires-clause-keys c =
     let test : ReferenceElement → Bool = λ x. some_parent_match c.args.catalog.now.tables Zero x in
     fails_at test c.as_slice-element-items.result.now c.loop-element.element-index c.element-item.result c.loop-element-test.true c.element-item.is
     (ap (list_any test) c.as_slice-element-items.ensures ∙ (all_match c.args.catalog.now.tables c.args.create.now c.requires.names).parents)
-
-pub declared_reference-requires-clause-equal : goal.declared_reference-requires-clause-equal
-unfolding has_unequal_lists
-declared_reference-requires-clause-equal c =
-    let test : ReferenceElement → Bool = λ x. not (length x.columns == length x.parent_columns) in
-    is_equal (length c.element-item.result.columns) (length c.element-item.result.parent_columns)
-    (fails_at test c.as_slice-element-items.result.now c.loop-element.element-index c.element-item.result c.loop-element-test.true c.element-item.is
-    (ap (list_any test) c.as_slice-element-items.ensures ∙ c.requires.equal))

@@ -1,8 +1,0 @@
-use Rattle.std.specs.Prelude.{◌≡◌, take, false}
-use Rattle.std.specs.List.{list_any}
-use Rattle.sql_statements.specs.declared.create.ReferenceElement.{ReferenceElement}
-use Rattle.catalog_core.specs.create.Creation.{names_other_kind}
-use Rattle.catalog_core.proofs.create.shape.references_other_kind.Given as goal
-
-abbrev pub invariant-loop-x : goal.invariant-loop-x
-invariant-loop-x l = list_any (λ (x : ReferenceElement). names_other_kind l.catalog.tables l.create x) (take l.x-index l.x-items) ≡ false
