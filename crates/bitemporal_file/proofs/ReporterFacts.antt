@@ -6,10 +6,18 @@ use Rattle.std.proofs.KnownBytes.{Appends-nil, Appends-trans}
 use Rattle.std.proofs.lemmas.List.{length-append}
 use Rattle.std.proofs.lemmas.List.Elements.{All-append, All-cons, All-head, All-nil, All-tail}
 use Rattle.script_engine.specs.script.Listening.{ReceivesAll}
-use Rattle.bitemporal_file.specs.Reporting.{EndsAtRefusal, ReceivesResult, ReceivesResults, greatest_from, texts_from}
+use Rattle.bitemporal_file.specs.Reporting.{AllButLast, EndsAtRefusal, ReceivesResult, ReceivesResults, greatest_from, texts_from}
 use Rattle.bitemporal_file.specs.Notes.{tally_from}
 use Rattle.bitemporal_file.specs.declared.reporter.Reporter.{Reporter}
 use Rattle.bitemporal_file.proofs.NoteFacts.{tally-more, told_then}
+
+-- all but the last, in a list after another
+module _ {X : Type 0} (Holds : X → Type 0) where
+  pub all_but_last-append : (xs ys : List X) → All Holds xs → AllButLast Holds ys → AllButLast Holds (xs ++ ys)
+  all_but_last-append [] ys all but = but
+  all_but_last-append (x ∷ []) [] all but = tt
+  all_but_last-append (x ∷ []) (y ∷ ys) all but = (All-head Holds x [] all, but)
+  all_but_last-append (x ∷ next ∷ xs) ys all but = (All-head Holds x (next ∷ xs) all, all_but_last-append (next ∷ xs) ys (All-tail Holds x (next ∷ xs) all) but)
 
 module _ {W N K : Type 0} (contents : W → Option (List ℕ)) (errors : N → Option (List ℕ)) (text : ℕ → K → List ℕ) (status : K → ℕ) (forgotten : K → ℕ) where
   pub none_recorded : (old : Reporter W N) → old.fault ≡ None → ReceivesResults contents errors text status forgotten old [] true old
@@ -23,6 +31,7 @@ module _ {W N K : Type 0} (contents : W → Option (List ℕ)) (errors : N → O
     written = λ none. (Appends-nil (contents old.out), sym (add-zero old.next));
     on = λ on. (quiet, λ stops. All-nil (λ r. status r ≡ 0));
     off = λ off. let no : ⊥ = cc in absurd no;
+    stop = λ stops. tt;
   }
 
   last_recorded : (old : Reporter W N) (result : K) (new : Reporter W N) → old.fault ≡ None → ReceivesResult contents errors text status forgotten old result false new → ReceivesResults contents errors text status forgotten old (result ∷ []) false new
@@ -45,6 +54,7 @@ module _ {W N K : Type 0} (contents : W → Option (List ℕ)) (errors : N → O
             | inr stopped ↦ inr (stopped.0, inl (stopped.1, refl))
           ],
         );
+    stop = λ stops. tt;
   }
 
   next_recorded : (old : Reporter W N) (result : K) (middle : Reporter W N) (results : List K) (goes_on : Bool) (new : Reporter W N) → old.fault ≡ None → ReceivesResult contents errors text status forgotten old result true middle → ReceivesResults contents errors text status forgotten middle results goes_on new → ReceivesResults contents errors text status forgotten old (result ∷ results) goes_on new
@@ -78,6 +88,7 @@ module _ {W N K : Type 0} (contents : W → Option (List ℕ)) (errors : N → O
                 | inr stopped ↦ let stops : old.stops ≡ true = sym told.stops ∙ stopped.0 in inr (stops, inr (zero stops, stopped.1))
               ],
             );
+        stop = λ stops. all_but_last-append (λ r. status r ≡ 0) (result ∷ []) results (All-cons (λ r. status r ≡ 0) result [] (zero stops) (All-nil (λ r. status r ≡ 0))) (rest.stop (told.stops ∙ stops));
       }
 
   pub all_recorded : (n : ℕ) (old : Reporter W N) (results : List K) (goes_on : Bool) (new : Reporter W N) → old.fault ≡ None → ReceivesAll (λ o m. ReceivesResult contents errors text status forgotten o) n old results goes_on new → ReceivesResults contents errors text status forgotten old results goes_on new
@@ -143,4 +154,5 @@ module _ {W N K : Type 0} (contents : W → Option (List ℕ)) (errors : N → O
                 | inr stopped ↦ let stops : old.stops ≡ true = sym first.stops ∙ stopped.0 in inr (stops, refusal-more results more (zeros stops) stopped.1)
               ],
             );
+        stop = λ stops. all_but_last-append (λ r. status r ≡ 0) results more (zeros stops) (last.stop (first.stops ∙ stops));
       }

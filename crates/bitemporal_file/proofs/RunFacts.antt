@@ -4,7 +4,7 @@ use Rattle.std.specs.Prelude.{IfErr, IfSome, IsSome}
 use Rattle.std.specs.Io.KnownBytes.{Appends}
 use Rattle.std.proofs.KnownBytes.{Appends-nil, Appends-trans}
 use Rattle.std.proofs.lemmas.List.{append-nil, length-append, map-append, take-append-drop, take_more}
-use Rattle.std.proofs.lemmas.List.Elements.{All-append, All-cons, All-head, All-nil, All-tail}
+use Rattle.std.proofs.lemmas.List.Elements.{All-append, All-cons, All-nil}
 use Rattle.period_core.specs.declared.refusal.Refusal.{Refusal}
 use Rattle.history_model.specs.Histories.{History}
 use Rattle.sql_statements.specs.Lexemes.{Lexeme}
@@ -18,13 +18,13 @@ use Rattle.script_engine.specs.script.Script.{MayRefuseScript, most_bytes}
 use Rattle.command_line.specs.Reading.{read_of}
 use Rattle.command_line.specs.declared.fault.RunFault.{RunFault}
 use Rattle.command_line.specs.declared.fault.RunFault.TheVariants.{Memory, Read, Script, Write}
-use Rattle.bitemporal_file.specs.Reporting.{EndsAtRefusal, IsReportFault, ReceivesResults, greatest_from, texts_from}
-use Rattle.bitemporal_file.specs.ScriptRuns.{AllButLast, AreOfReaders, AreRun, Ends, IsScriptFault, IsWhole, LeadsTo, MayRefuseNext, ScriptRun, reports, results_of, tally_after}
+use Rattle.bitemporal_file.specs.Reporting.{AllButLast, EndsAtRefusal, IsReportFault, ReceivesResults, greatest_from, texts_from}
+use Rattle.bitemporal_file.specs.ScriptRuns.{AreOfReaders, AreRun, Ends, IsScriptFault, IsWhole, LeadsTo, MayRefuseNext, ScriptRun, reports, results_of, tally_after}
 use Rattle.bitemporal_file.specs.declared.reporter.Reporter.{Reporter}
 use Rattle.bitemporal_file.specs.Notes.{tally_from}
 use Rattle.bitemporal_file.specs.declared.notes.Tally.{Tally}
 use Rattle.bitemporal_file.proofs.NoteFacts.{told_then}
-use Rattle.bitemporal_file.proofs.ReporterFacts.{greatest-more, refusal-more}
+use Rattle.bitemporal_file.proofs.ReporterFacts.{all_but_last-append, greatest-more, refusal-more}
 
 -- ---- one script
 
@@ -80,6 +80,7 @@ module _ {W N K : Type 0} (contents : W → Option (List ℕ)) (errors : N → O
     faulty = rw quiet tt;
     whole = λ on. let no : ⊥ = cc in absurd no;
     stopped = λ off. let no : ⊥ = cc in absurd no;
+    stop = λ stops. tt;
     refused = λ refusal is. may refusal (is_fault refusal is);
   }
     where
@@ -100,6 +101,7 @@ module _ {W N K : Type 0} (contents : W → Option (List ℕ)) (errors : N → O
     faulty = rw quiet tt;
     whole = λ on. (refl, λ stops. All-nil (λ r. status r ≡ 0));
     stopped = λ off. let no : ⊥ = cc in absurd no;
+    stop = λ stops. tt;
     refused = λ refusal is. let no : ⊥ = cc in absurd no;
   }
 
@@ -140,6 +142,7 @@ module _ {W N K : Type 0} (contents : W → Option (List ℕ)) (errors : N → O
           | inl some ↦ absurd (no_fault new.fault quiet some)
           | inr stops ↦ (stops.0, subst (EndsAtRefusal status) (sym (append-nil results)) stops.1)
         ];
+    stop = λ stops. subst (AllButLast (λ r. status r ≡ 0)) (sym (append-nil results)) (told.stop stops);
     refused = λ refusal is. let no : ⊥ = cc in absurd no;
   }
 
@@ -176,6 +179,7 @@ module _ {W N K : Type 0} (contents : W → Option (List ℕ)) (errors : N → O
         faulty = its_fault new.fault fault is may;
         whole = λ on. let no : ⊥ = cc in absurd no;
         stopped = λ off. let no : ⊥ = cc in absurd no;
+        stop = λ stops. subst (AllButLast (λ r. status r ≡ 0)) (sym (append-nil results)) (told.stop stops);
         refused = λ refusal same. absurd (is_none_of_script fault refusal (its_own new.fault fault is may) (same_fault fault (Script refusal) same));
       }
 
@@ -253,6 +257,7 @@ module _ {W N K : Type 0} (contents : W → Option (List ℕ)) (errors : N → O
             let (stops, ends) = last.stopped is in
             let stopping : old.stops ≡ true = sym first.stops ∙ stops in
             (stopping, subst (EndsAtRefusal status) (sym (results-more runs more)) (refusal-more contents errors text status forgotten (results_of runs) (results_of more) (zeros stopping) ends));
+        stop = λ stops. subst (AllButLast (λ r. status r ≡ 0)) (sym (results-more runs more)) (all_but_last-append (λ r. status r ≡ 0) (results_of runs) (results_of more) (zeros stops) (last.stop (first.stops ∙ stops)));
         refused = λ refusal is. next-more readers known runs more refusal count (last.refused refusal is);
       }
 
@@ -271,6 +276,7 @@ module _ {W N K : Type 0} (contents : W → Option (List ℕ)) (errors : N → O
     faulty = ends.faulty;
     whole = λ is. absurd (before is);
     stopped = ends.stopped;
+    stop = ends.stop;
     refused = λ refusal is. next-within readers rest runs refusal (ends.refused refusal is);
   }
 
@@ -289,6 +295,7 @@ module _ {W N K : Type 0} (contents : W → Option (List ℕ)) (errors : N → O
     faulty = ends.faulty;
     whole = ends.whole;
     stopped = ends.stopped;
+    stop = ends.stop;
     refused = ends.refused;
   }
     where
@@ -302,13 +309,6 @@ module _ {W N K : Type 0} (contents : W → Option (List ℕ)) (errors : N → O
 pub went_on : (goes_on : Bool) → ◌≢◌ {A = Result Bool RunFault} (Ok goes_on) (Ok false) → goes_on ≡ true
 went_on true on = refl
 went_on false on = absurd (on refl)
-
-module _ {X : Type 0} (Holds : X → Type 0) where
-  all_but_last-append : (xs ys : List X) → All Holds xs → AllButLast Holds ys → AllButLast Holds (xs ++ ys)
-  all_but_last-append [] ys all but = but
-  all_but_last-append (x ∷ []) [] all but = tt
-  all_but_last-append (x ∷ []) (y ∷ ys) all but = (All-head Holds x [] all, but)
-  all_but_last-append (x ∷ next ∷ xs) ys all but = (All-head Holds x (next ∷ xs) all, all_but_last-append (next ∷ xs) ys (All-tail Holds x (next ∷ xs) all) but)
 
 module _ {K : Type 0} where
   -- runs of no script

@@ -180,6 +180,7 @@ module _ {K : Type 0} where
         written = λ none. (tt, (told.written none).1);
         on = told.on;
         off = told.off;
+        stop = told.stop;
       };
       written = λ none. (told.written none).0;
     }
@@ -198,6 +199,7 @@ module _ {K : Type 0} where
         written = λ silent. (tt, sym (add-zero old.next));
         on = λ on. (none refl, λ stops. All-nil (λ r. status r ≡ 0));
         off = λ off. let no : ⊥ = cc in absurd no;
+        stop = λ stops. tt;
       };
       written = λ silent. wrote refl;
     }
@@ -212,6 +214,7 @@ module _ {K : Type 0} where
         written = λ silent. (tt, sym (add-zero old.next));
         on = λ on. let no : ⊥ = cc in absurd no;
         off = λ off. ((some refl).1, inl (some refl).0);
+        stop = λ stops. tt;
       };
       written = λ silent. absurd (no_fault fault silent (some refl).0);
     }
@@ -261,6 +264,7 @@ module _ {K : Type 0} where
             | inl some ↦ absurd (no_fault new.fault quiet some)
             | inr stopped ↦ stopped
           ];
+      stop = told.stop;
     }
 
     -- a session ended by a fault that is none of the report

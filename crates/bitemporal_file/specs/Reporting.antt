@@ -89,6 +89,12 @@ EndsAtRefusal status (result ∷ results) =
     ((status result ≢ 0) × (results ≡ []))
     ⊎ ((status result ≡ 0) × EndsAtRefusal status results)
 
+-- all but the last
+abbrev pub AllButLast : {X : Type 0} → (X → Type 0) → List X → Type 0
+AllButLast Holds [] = Unit {0}
+AllButLast Holds (x ∷ []) = Unit {0}
+AllButLast Holds (x ∷ next ∷ rest) = Holds x × AllButLast Holds (next ∷ rest)
+
 -- the reporter receives results, one after the other
 pub record ReceivesResults {W N K : Type 0} (contents : W → Option (List ℕ))
     (errors : N → Option (List ℕ)) (text : ℕ → K → List ℕ) (status : K → ℕ) (forgotten : K → ℕ)
@@ -108,3 +114,5 @@ pub record ReceivesResults {W N K : Type 0} (contents : W → Option (List ℕ))
   pub off : goes_on ≡ false
       → IfSome new.fault IsReportFault
       × (IsSome new.fault ⊎ ((old.stops ≡ true) × EndsAtRefusal status results))
+  -- with --stop no result but the last has another status than 0
+  pub stop : old.stops ≡ true → AllButLast (λ result. status result ≡ 0) results

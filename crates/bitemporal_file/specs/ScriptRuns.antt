@@ -11,7 +11,8 @@ use Rattle.script_engine.specs.script.Script.{MayRefuseScript, most_bytes}
 use Rattle.command_line.specs.declared.fault.RunFault.{RunFault}
 use Rattle.command_line.specs.declared.fault.RunFault.TheVariants.{Memory, Read, Script, Write}
 use Rattle.bitemporal_file.specs.Notes.{TellsFirst, tally_from}
-use Rattle.bitemporal_file.specs.Reporting.{EndsAtRefusal, IsReportFault, greatest_from, texts_from}
+use Rattle.bitemporal_file.specs.Reporting.{AllButLast, EndsAtRefusal, IsReportFault}
+use Rattle.bitemporal_file.specs.Reporting.{greatest_from, texts_from}
 use Rattle.bitemporal_file.specs.declared.notes.Tally.{Tally}
 use Rattle.bitemporal_file.specs.declared.reporter.Reporter.{Reporter}
 
@@ -40,12 +41,6 @@ AreOfReaders (known ∷ readers) (run ∷ runs) =
 -- a run that came to its end
 abbrev pub IsWhole : {K : Type 0} → ScriptRun K → Type 0
 IsWhole run = run.is_whole ≡ true
-
--- all but the last
-abbrev pub AllButLast : {X : Type 0} → (X → Type 0) → List X → Type 0
-AllButLast Holds [] = Unit {0}
-AllButLast Holds (x ∷ []) = Unit {0}
-AllButLast Holds (x ∷ next ∷ rest) = Holds x × AllButLast Holds (next ∷ rest)
 
 -- scripts that were run one after the other, up to their end or to what ended them, with this fault
 -- of the report or none
@@ -113,5 +108,7 @@ pub record Ends {W N K : Type 0} (contents : W → Option (List ℕ)) (errors : 
       → (length runs ≡ length readers)
       × (old.stops ≡ true → All (λ result. status result ≡ 0) (results_of runs))
   pub stopped : ended ≡ Ok false → (old.stops ≡ true) × EndsAtRefusal status (results_of runs)
+  -- with --stop no statement is run after one whose status is not 0, whatever the end
+  pub stop : old.stops ≡ true → AllButLast (λ result. status result ≡ 0) (results_of runs)
   pub refused : (refusal : Refusal) → ended ≡ Err (Script refusal)
       → MayRefuseNext readers runs refusal

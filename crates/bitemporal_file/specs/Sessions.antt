@@ -15,7 +15,8 @@ use Rattle.script_engine.specs.script.Script.{MayRefuseScript}
 use Rattle.bitemporal_file.specs.Notes.{TellsFirst, tally_from}
 use Rattle.bitemporal_file.specs.Parts.{EndsAtSemicolon, HasNoCommand, HasNoToken}
 use Rattle.bitemporal_file.specs.Parts.{IsCommandLine, IsUnfinished}
-use Rattle.bitemporal_file.specs.Reporting.{EndsAtRefusal, IsReportFault, ReceivesResults}
+use Rattle.bitemporal_file.specs.Reporting.{AllButLast, EndsAtRefusal, IsReportFault}
+use Rattle.bitemporal_file.specs.Reporting.{ReceivesResults}
 use Rattle.bitemporal_file.specs.Reporting.{greatest_from, texts_from}
 use Rattle.bitemporal_file.specs.ScriptRuns.{ScriptRun}
 use Rattle.bitemporal_file.specs.declared.reporter.Reporter.{Reporter}
@@ -176,3 +177,5 @@ pub record EndsWith {W N K : Type 0} (contents : W → Option (List ℕ))
       → All (λ result. status result ≡ 0) (all_results turns)
   pub stopped : ended ≡ Ok false
       → (old.stops ≡ true) × EndsAtRefusal status (all_results turns)
+  -- with --stop no statement is run after one whose status is not 0, whatever the end
+  pub stop : old.stops ≡ true → AllButLast (λ result. status result ≡ 0) (all_results turns)
