@@ -5,12 +5,13 @@ ghost use Rattle.statement_resolution.specs.Placing.{place_compare, place_side};
 ghost use Rattle.statement_resolution.specs.query.Faults as judged;
 
 use crate::faults::Faults;
+use crate::positions::position_or_zero;
 use crate::query::seen::is_qualified;
 use crate::query::seen_column::Matched;
 use crate::resolver::Resolver;
 use catalog_core::{
     Comparand, CompareValues, TableDef, ValueKind, def_kind, def_matches, differ, kind_of_value,
-    names_non_value_column, value_position,
+    names_non_value_column,
 };
 use period_core::Memory;
 use sql_statements::{ColumnReference, Compare, Operand};
@@ -40,7 +41,7 @@ pub trait ColumnNames {
 }
 
 impl ColumnNames for TableDef {
-    ghost use Rattle.statement_resolution.specs.Flaws.{own_matches};
+    ghost use Rattle.statement_resolution.specs.TableFaults.{own_matches};
     ghost use Rattle.statement_resolution.specs.Placing.{table_place};
 
     ghost matches = { λ t r. own_matches t r };
@@ -59,10 +60,7 @@ impl ColumnNames for TableDef {
     }
 
     fn position(&self, column: &ColumnReference) -> usize {
-        match value_position(self, &column.name) {
-            Some(position) => position,
-            None => 0,
-        }
+        position_or_zero(self, &column.name)
     }
 }
 
@@ -142,7 +140,7 @@ pub fn resolve_comparison<N: ColumnNames>(
 
 impl Resolver<Compare> for TableDef {
     ghost use Rattle.std.specs.Prelude.{Option, Some};
-    ghost use Rattle.statement_resolution.specs.Flaws.{faults_of, is_flawed_compare};
+    ghost use Rattle.statement_resolution.specs.TableFaults.{own_compare_faults};
     ghost use Rattle.statement_resolution.specs.Placing.{placed_compare};
     ghost use Rattle.catalog_core.specs.declared.condition.CompareValues.{CompareValues as Resolved};
 
@@ -150,7 +148,7 @@ impl Resolver<Compare> for TableDef {
 
     ghost Parts = { Option Resolved };
 
-    ghost faults = { λ t c. faults_of (λ flaw. is_flawed_compare flaw t c) };
+    ghost faults = { λ t c. own_compare_faults t c };
 
     ghost placed = { λ t c. Some (placed_compare t c) };
 

@@ -2,7 +2,7 @@
 //! names.
 
 ghost use Rattle.std.specs.Prelude.{◌≡◌};
-ghost use Rattle.statement_resolution.specs.Flaws.{faults_of, is_flawed_period};
+ghost use Rattle.statement_resolution.specs.TableFaults.{period_faults};
 ghost use Rattle.statement_resolution.specs.stored.StoredPlacing.{placed_days};
 ghost use Rattle.statement_resolution.specs.stored.StoredQueries.{side_parts};
 
@@ -28,9 +28,9 @@ fn resolve_days(side: &PeriodOperand) -> PeriodSide
 }
 
 /// The faults of a side of a period predicate.
-#[tactic(auto, unfolding(crate::specs::Flaws::is_flawed_period))]
+#[tactic(auto, unfolding(crate::specs::TableFaults::period_faults))]
 fn period_faults(table: &TableDef, period: &PeriodOperand) -> Faults
-    ensures { result ≡ faults_of (λ flaw. is_flawed_period flaw table.now period.now) }
+    ensures { result ≡ period_faults table.now period.now }
 {
     match period {
         PeriodOperand::Named(named) => Faults {
@@ -47,7 +47,7 @@ fn period_faults(table: &TableDef, period: &PeriodOperand) -> Faults
 
 impl Resolver<StoredTest> for TableDef {
     ghost use Rattle.std.specs.Prelude.{Option, Some};
-    ghost use Rattle.statement_resolution.specs.Flaws.{faults_of, is_flawed_test};
+    ghost use Rattle.statement_resolution.specs.TableFaults.{test_faults};
     ghost use Rattle.statement_resolution.specs.stored.StoredPlacing.{placed_test};
     ghost use Rattle.statement_resolution.specs.stored.StoredQueries.{PlainTest, test_parts};
 
@@ -55,13 +55,13 @@ impl Resolver<StoredTest> for TableDef {
 
     ghost Parts = { Option PlainTest };
 
-    ghost faults = { λ t x. faults_of (λ flaw. is_flawed_test flaw t x) };
+    ghost faults = { λ t x. test_faults t x };
 
     ghost placed = { λ t x. Some (placed_test t x) };
 
     ghost parts = { λ numbered. Some (test_parts numbered) };
 
-    #[tactic(auto, unfolding(crate::specs::Flaws::is_flawed_test))]
+    #[tactic(auto, unfolding(crate::specs::TableFaults::test_faults))]
     fn resolve_test(
         &self,
         alloc: Global,
