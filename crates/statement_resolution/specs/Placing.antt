@@ -32,14 +32,6 @@ place_compare place c =
       right = place_side place c.right;
     }
 
--- the place of a column in a row of a table
-abbrev pub table_place : TableDef → ColumnReference → ℕ
-table_place t r = or_zero (value_position t r.name)
-
--- a comparison in a row of a table
-abbrev pub placed_compare : TableDef → Compare → CompareValues
-placed_compare t c = place_compare (table_place t) c
-
 -- an assignment
 abbrev pub placed_assignment : TableDef → written.Assignment → Assignment
 placed_assignment t a = record { position = or_zero (value_position t a.column); value = a.value }

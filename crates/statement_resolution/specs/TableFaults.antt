@@ -4,7 +4,6 @@ use Rattle.std.specs.Prelude.{◌&&◌, Bool, true, not, List, Option, Some, Non
 use Rattle.std.specs.List.{list_any}
 use Rattle.sql_statements.specs.Trees.{Condition}
 use Rattle.sql_statements.specs.declared.statement.Assignment.{Assignment}
-use Rattle.sql_statements.specs.declared.statement.ColumnReference.{ColumnReference}
 use Rattle.sql_statements.specs.declared.statement.Compare.{Compare}
 use Rattle.sql_statements.specs.declared.statement.PeriodOperand.{PeriodOperand}
 use Rattle.sql_statements.specs.declared.statement.PeriodOperand.TheVariants.{Named, Dates}
@@ -14,8 +13,8 @@ use Rattle.sql_statements.specs.declared.statement.StoredTest.TheVariants.{Value
 use Rattle.sql_statements.specs.declared.statement.StoredTest.TheVariants.{ContainsDay}
 use Rattle.statement_resolution.specs.Faults.{either, no_faults, where_faults}
 use Rattle.statement_resolution.specs.change.Insertion.{is_of_other_kind, is_too_long}
-use Rattle.statement_resolution.specs.query.Faults.{compare_faults}
-use Rattle.statement_resolution.specs.query.Scopes.{SeenColumn, is_qualified, matches_in}
+use Rattle.statement_resolution.specs.query.Faults.{compare_faults, matches_among}
+use Rattle.statement_resolution.specs.query.Scopes.{SeenColumn, is_qualified, own_columns}
 use Rattle.catalog_core.specs.query.Selection.{names_non_value_column}
 use Rattle.catalog_core.specs.table.Matches.{is_matching}
 use Rattle.catalog_core.specs.table.Naming.{Name}
@@ -59,7 +58,7 @@ is_set_again assignments a =
 unfoldable pub sets_twice : List Assignment → Bool
 sets_twice assignments = list_any (λ (a : Assignment). is_set_again assignments a) assignments
 
--- the fault of that (26), whether the table exists or not
+-- the fault of a column that is set twice (26), whether the table exists or not
 abbrev pub twice_fault : List Assignment → Faults
 twice_fault assignments = record no_faults { twice = sets_twice assignments }
 
@@ -75,14 +74,9 @@ portion_faults t (Some portion) = record no_faults {
 
 -- ==== conditions ====
 
--- the columns of the table that a name matches: under another qualifier than the table's name,
--- none
-abbrev pub own_matches : TableDef → ColumnReference → List SeenColumn
-own_matches t r = matches_in t.name t r
-
--- a comparison
+-- a comparison: under another qualifier than the table's name, a name matches no column
 abbrev pub own_compare_faults : TableDef → Compare → Faults
-own_compare_faults t c = compare_faults (own_matches t) c
+own_compare_faults t c = compare_faults (matches_among (own_columns t)) c
 
 -- a period that is not the table's (24), and a constructor without a day (41)
 unfoldable pub period_faults : TableDef → PeriodOperand → Faults
@@ -91,11 +85,12 @@ period_faults t (Named r) = record no_faults {
 }
 period_faults t (Dates start end) = record no_faults { empty = int_le end start }
 
--- a test of a stored query
-unfoldable pub test_faults : TableDef → StoredTest → Faults
-test_faults t (Values c) = own_compare_faults t c
-test_faults t (Periods left predicate right) = either (period_faults t left) (period_faults t right)
-test_faults t (ContainsDay period day) = period_faults t period
+-- a test of a stored query, whose comparisons see these columns
+unfoldable pub test_faults : TableDef → List SeenColumn → StoredTest → Faults
+test_faults t columns (Values c) = compare_faults (matches_among columns) c
+test_faults t columns (Periods left predicate right) =
+    either (period_faults t left) (period_faults t right)
+test_faults t columns (ContainsDay period day) = period_faults t period
 
 -- the rows that an UPDATE or a DELETE is about: its portion, and its WHERE
 abbrev pub rows_faults : TableDef → Option Portion → Option (Condition Compare) → Faults

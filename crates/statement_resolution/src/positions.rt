@@ -16,7 +16,7 @@ use sql_statements::{Name, Portion};
 use std::alloc::Global;
 
 /// The position of a column: 0 if it has none, as in no accepted statement.
-pub fn position_or_zero(table: &TableDef, name: &Name) -> usize
+fn position_or_zero(table: &TableDef, name: &Name) -> usize
     ensures { result ≡ or_zero (word.value_position table.now name.now) }
 {
     match value_position(table, name) {

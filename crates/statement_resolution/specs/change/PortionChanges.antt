@@ -21,23 +21,24 @@ use Rattle.catalog_core.specs.declared.table.TableDef.{TableDef}
 
 -- ==== refusals ====
 
--- 24 to 31 and 41: the faults of an UPDATE against its table
+-- the faults of an UPDATE against its table: 24, 25, 27, 30, 31 and 41
 unfoldable pub update_faults : TableDef → Update → Faults
 update_faults t u =
     either (rows_faults t u.portion u.condition) (faults_among (set_faults t) u.assignments)
 
--- 24 to 30 and 41: the faults of a DELETE against its table
+-- the faults of a DELETE against its table: 24, 25, 27, 30 and 41
 abbrev pub delete_faults : TableDef → Delete → Faults
 delete_faults t d = rows_faults t d.portion d.condition
 
--- the refusals that an UPDATE may get by its statement and the catalog, each with its condition: no
--- UPDATE has two lists of columns to be of one length
+-- the refusals that an UPDATE may get by its statement and the catalog, each with its condition: it
+-- gives no lists of two lengths (29)
 abbrev pub update_conditions : List TableDef → Update → List RefusalCondition
 update_conditions catalog u =
     fault_conditions
     (either (named_faults (λ t. update_faults t u) catalog u.table) (twice_fault u.assignments))
 
--- the conditions of the refusals that a DELETE may get: none sets a column
+-- the conditions of the refusals that a DELETE may get: it sets no column (26, 31), and gives no
+-- list (29)
 abbrev pub delete_conditions : List TableDef → Delete → List RefusalCondition
 delete_conditions catalog d =
     fault_conditions (named_faults (λ t. delete_faults t d) catalog d.table)

@@ -11,6 +11,7 @@ use Rattle.sql_statements.specs.declared.statement.StoredTest.TheVariants as wri
 use Rattle.sql_statements.specs.declared.tree.Tree.{Tree}
 use Rattle.statement_resolution.specs.Faults.{fault_conditions, where_faults}
 use Rattle.statement_resolution.specs.TableFaults.{named_faults, test_faults}
+use Rattle.statement_resolution.specs.query.Scopes.{own_columns}
 use Rattle.catalog_core.specs.RefusalConditions.{RefusalCondition}
 use Rattle.statement_resolution.specs.Positions.{ReplacesWhere, resolved_comparison}
 use Rattle.statement_resolution.specs.SystemWindows.{window_of}
@@ -31,13 +32,13 @@ abbrev pub IsStored : Statement → Type 0
 IsStored (stored s) = Unit {0}
 IsStored _ = ⊥
 
--- 24 to 30 and 41: the faults of a stored query against its table; a column in the place of a period
--- is unknown
+-- the faults of a stored query against its table: 24, 25, 27, 30 and 41; a column in the place of a
+-- period is unknown
 abbrev pub stored_faults : TableDef → written.Stored → Faults
-stored_faults t s = where_faults (test_faults t) s.condition
+stored_faults t s = where_faults (test_faults t (own_columns t)) s.condition
 
 -- the refusals that a stored query may get by its statement and the catalog, each with its
--- condition: it gives no list of columns and no text to be stored
+-- condition: it sets no column (26, 31), and gives no list (29)
 abbrev pub stored_query_conditions : List TableDef → written.Stored → List RefusalCondition
 stored_query_conditions catalog s =
     fault_conditions (named_faults (λ t. stored_faults t s) catalog s.table)

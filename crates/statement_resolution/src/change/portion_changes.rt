@@ -11,6 +11,8 @@ ghost use Rattle.catalog_core.specs.RefusalConditions.{Holds};
 use crate::change::portion_faults::twice_fault;
 use crate::faults::Faults;
 use crate::positions::{resolve_assignments, resolve_portion};
+use crate::query::scope::Scope;
+use crate::query::seen_column::own_columns;
 use crate::resolver::resolve_where;
 use catalog_core::{Action, Catalog, Change};
 use period_core::Refusal;
@@ -35,9 +37,14 @@ pub fn resolve_update(
         return Err(Refusal::UnknownTable);
     };
     let sets = update.assignments.as_slice();
+    let columns = own_columns(alloc, table)?;
     let mut found = Faults::none();
     let portion = resolve_portion(table, &update.portion, &mut found);
-    let condition = resolve_where(alloc, table, &update.condition, &mut found)?;
+    let scope = Scope {
+        before: &[],
+        seen: columns.as_slice(),
+    };
+    let condition = resolve_where(alloc, &scope, &update.condition, &mut found)?;
     let assignments = resolve_assignments(alloc, table, sets, &mut found)?;
     if let Some(fault) = found.or(twice_fault(sets)).first() {
         return Err(fault);
@@ -65,9 +72,14 @@ pub fn resolve_delete(
     let Some((number, table)) = catalog.table_named(&delete.table) else {
         return Err(Refusal::UnknownTable);
     };
+    let columns = own_columns(alloc, table)?;
     let mut found = Faults::none();
     let portion = resolve_portion(table, &delete.portion, &mut found);
-    let condition = resolve_where(alloc, table, &delete.condition, &mut found)?;
+    let scope = Scope {
+        before: &[],
+        seen: columns.as_slice(),
+    };
+    let condition = resolve_where(alloc, &scope, &delete.condition, &mut found)?;
     if let Some(fault) = found.first() {
         return Err(fault);
     }

@@ -7,6 +7,7 @@ ghost use Rattle.statement_resolution.specs.stored.StoredPlacing.{placed_days};
 ghost use Rattle.statement_resolution.specs.stored.StoredQueries.{side_parts};
 
 use crate::faults::Faults;
+use crate::query::scope::Scope;
 use crate::query::seen::is_qualified;
 use crate::resolver::Resolver;
 use catalog_core::{PeriodSide, TableDef, VersionTest};
@@ -45,9 +46,17 @@ fn period_faults(table: &TableDef, period: &PeriodOperand) -> Faults
     }
 }
 
-impl Resolver<StoredTest> for TableDef {
+/// A table and its columns, which tests of its versions see.
+#[derive(Clone, Copy)]
+pub struct StoredScope<'a> {
+    pub table: &'a TableDef,
+    pub columns: Scope<'a>,
+}
+
+impl<'a> Resolver<StoredTest> for StoredScope<'a> {
     ghost use Rattle.std.specs.Prelude.{Option, Some};
     ghost use Rattle.statement_resolution.specs.TableFaults.{test_faults};
+    ghost use Rattle.statement_resolution.specs.query.Places.{place_among};
     ghost use Rattle.statement_resolution.specs.stored.StoredPlacing.{placed_test};
     ghost use Rattle.statement_resolution.specs.stored.StoredQueries.{PlainTest, test_parts};
 
@@ -55,9 +64,10 @@ impl Resolver<StoredTest> for TableDef {
 
     ghost Parts = { Option PlainTest };
 
-    ghost faults = { λ t x. test_faults t x };
+    ghost faults = { λ s x. test_faults s.table.now s.columns.seen.now x };
 
-    ghost placed = { λ t x. Some (placed_test t x) };
+    ghost placed = { λ s x.
+        Some (placed_test (place_among s.columns.before.now s.columns.seen.now) x) };
 
     ghost parts = { λ numbered. Some (test_parts numbered) };
 
@@ -70,17 +80,18 @@ impl Resolver<StoredTest> for TableDef {
     ) -> Result<VersionTest, Memory> {
         match test {
             StoredTest::Values(compare) => {
-                let compare = self.resolve_test(alloc, compare, found)?;
+                let compare = self.columns.resolve_test(alloc, compare, found)?;
                 Ok(VersionTest::Values(compare))
             }
             StoredTest::Periods(left, predicate, right) => {
-                *found = found.or(period_faults(self, left).or(period_faults(self, right)));
+                let table = self.table;
+                *found = found.or(period_faults(table, left).or(period_faults(table, right)));
                 let left = resolve_days(left);
                 let right = resolve_days(right);
                 Ok(VersionTest::Periods(left, *predicate, right))
             }
             StoredTest::ContainsDay(side, day) => {
-                *found = found.or(period_faults(self, side));
+                *found = found.or(period_faults(self.table, side));
                 let side = resolve_days(side);
                 Ok(VersionTest::ContainsDay(side, *day))
             }

@@ -1,5 +1,5 @@
 -- Conditions with their tests replaced, by their parts; and what has a position if it has no fault.
-use Rattle.std.proofs.Common.{◌≡◌, ◌∙◌, ◌<◌, ◌≤◌, ◌+◌, ◌++◌, ℕ, List, [], ◌∷◌, Option, None, Some, ap, get_or, length, map, refl, sym, take, take_all}
+use Rattle.std.proofs.Common.{◌≡◌, ◌∙◌, ◌<◌, ◌≤◌, ◌+◌, ◌++◌, ℕ, List, [], ◌∷◌, Option, None, Some, ap, get_or, length, map, refl, subst, sym, take, take_all}
 use Rattle.std.specs.Global.{Box, Vec}
 use Rattle.std.specs.Option.{option_map}
 use Rattle.std.proofs.lemmas.List.{map_push, take_more}
@@ -16,13 +16,14 @@ use Rattle.catalog_core.proofs.lemmas.table.Positions.{positioned}
 use Rattle.catalog_core.specs.Conditions.{tests_among, tests_of}
 use Rattle.catalog_core.specs.query.Selection.{value_position}
 use Rattle.statement_resolution.proofs.lemmas.judged.FaultSums.{both_clear, clear_parts}
-use Rattle.statement_resolution.proofs.lemmas.query.SeenColumns.{placed_in}
+use Rattle.statement_resolution.proofs.lemmas.query.SeenColumns.{own_place, own_there}
 use Rattle.statement_resolution.specs.Faults.{condition_faults, either, faults_among, no_faults, where_faults}
-use Rattle.statement_resolution.specs.Placing.{or_zero, place_compare, place_side, placed_assignment, table_place}
+use Rattle.statement_resolution.specs.Placing.{or_zero, place_compare, place_side, placed_assignment}
 use Rattle.statement_resolution.specs.Positions.{ReplacesWhere, ResolvesWhere, compare_by, map_condition, map_conditions, resolved_assignment, resolved_comparison, side_by}
-use Rattle.statement_resolution.specs.TableFaults.{own_compare_faults, own_matches, set_faults}
-use Rattle.statement_resolution.specs.query.Faults.{compare_faults, match_faults, side_faults}
-use Rattle.statement_resolution.specs.query.Scopes.{SeenColumn}
+use Rattle.statement_resolution.specs.TableFaults.{own_compare_faults, set_faults}
+use Rattle.statement_resolution.specs.query.Faults.{compare_faults, match_faults, matches_among, side_faults}
+use Rattle.statement_resolution.specs.query.Places.{place_among}
+use Rattle.statement_resolution.specs.query.Scopes.{SeenColumn, own_columns}
 use Rattle.statement_resolution.specs.declared.faults.Faults.{Faults}
 use Rattle.catalog_core.specs.declared.change.Assignment.{Assignment}
 use Rattle.catalog_core.specs.declared.condition.CompareValues.{CompareValues}
@@ -93,15 +94,6 @@ module _
         let sides = both_clear left right (both_clear (either left right) _ clean).0 in
         rw (side_placed c.left sides.0, side_placed c.right sides.1) refl
 
--- the columns of a table
-pub own_there : (t : TableDef) (r : ColumnReference) → match_faults (own_matches t r) ≡ no_faults → value_position t r.name ≡ Some (table_place t r)
-unfolding match_faults
-own_there t r clean =
-    (elim (value_position t r.name) as (λ o. value_position t r.name ≡ o → o ≡ Some (or_zero o)) [
-      | None ↦ (λ e. absurd (placed_in t.name t r (ap (λ (f : Faults). f.unknown) clean) (ap (λ (f : Faults). f.period) clean) e))
-      | Some n ↦ (λ e. refl)
-    ]) refl
-
 -- ---- conditions without a fault
 
 -- two ways to replace tests that agree on tests without a fault
@@ -127,11 +119,13 @@ module _ {T R : Type 0} (faults : T → Faults) (f g : T → R) (same : (x : T) 
   where_agrees h (Some c) (Some n) clean same = agree c clean ∙ same
 
 -- a WHERE of an UPDATE or a DELETE by its positions
-pub where_placed : (t : TableDef) (condition : Option (Condition Compare)) (numbered : Option (code.Tree CompareValues)) → where_faults (own_compare_faults t) condition ≡ no_faults
-    → ReplacesWhere (placed_by (table_place t)) (λ leaf. Some leaf) condition numbered → ResolvesWhere (resolved_comparison t) condition numbered
-where_placed t condition numbered clean same =
-    where_agrees (own_compare_faults t) (resolved_comparison t) (placed_by (table_place t))
-    (compare_placed (own_matches t) (λ (r : ColumnReference). value_position t r.name) (table_place t) (own_there t)) (λ leaf. Some leaf) condition numbered clean same
+pub where_placed : (t : TableDef) (columns : List SeenColumn) (condition : Option (Condition Compare)) (numbered : Option (code.Tree CompareValues)) → columns ≡ own_columns t
+    → where_faults (own_compare_faults t) condition ≡ no_faults → ReplacesWhere (placed_by (place_among [] columns)) (λ leaf. Some leaf) condition numbered
+    → ResolvesWhere (resolved_comparison t) condition numbered
+where_placed t columns condition numbered seen clean same =
+    where_agrees (own_compare_faults t) (resolved_comparison t) (placed_by (own_place t))
+    (compare_placed (matches_among (own_columns t)) (λ (r : ColumnReference). value_position t r.name) (own_place t) (own_there t)) (λ leaf. Some leaf) condition numbered clean
+    (subst (λ (cs : List SeenColumn). ReplacesWhere (placed_by (place_among [] cs)) (λ leaf. Some leaf) condition numbered) seen same)
 
 -- ---- assignments without a fault
 

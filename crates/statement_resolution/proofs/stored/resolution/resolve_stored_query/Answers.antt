@@ -3,9 +3,10 @@ use Rattle.sql_statements.specs.Plain.{plain_stored}
 use Rattle.catalog_core.proofs.lemmas.table.Named.{table_named}
 use Rattle.statement_resolution.proofs.lemmas.judged.Refused.{against, clear_by, least_missing, missing, none_applies, refused_by}
 use Rattle.statement_resolution.proofs.lemmas.stored.StoredNumbers.{stored_placed}
-use Rattle.statement_resolution.specs.Faults.{either, no_faults}
+use Rattle.statement_resolution.specs.Faults.{either, no_faults, where_faults}
 use Rattle.statement_resolution.specs.stored.StoredQueries.{stored_faults}
-use Rattle.statement_resolution.specs.TableFaults.{named_faults}
+use Rattle.statement_resolution.specs.TableFaults.{named_faults, test_faults}
+use Rattle.statement_resolution.specs.query.Scopes.{SeenColumn, own_columns}
 use Rattle.sql_statements.specs.Trees.{Stored}
 use Rattle.catalog_core.specs.table.TableWords.{table_of_name}
 use Rattle.statement_resolution.specs.declared.faults.Faults.{Faults}
@@ -29,7 +30,8 @@ returns-in-Some-first-clause-refused c =
     let s = plain_stored c.args.query.now in
     let t = c.in-Some.table.now in
     let there = table_named tables s.table c.in-Some.number t c.in-Some.ensures.0 c.in-Some.ensures.1 in
-    let whole = judged tables s t c.none-found.result c.resolve_where.new.found there c.none-found.ensures c.in_ok-condition.ensures.judged in
+    let seen : c.as_slice.result.now ≡ own_columns t = c.as_slice.ensures.value ∙ c.in_ok-columns.ensures in
+    let whole = judged tables s t c.none-found.result c.resolve_where.new.found there c.none-found.ensures (c.in_ok-condition.ensures.judged ∙ ap (λ (cs : List SeenColumn). either c.none-found.result (where_faults (test_faults t cs) s.condition)) seen) in
     inl (refused_by c.resolve_where.new.found _ whole c.in-Some-first.fault (sym c.first.ensures ∙ c.in-Some-first.is))
 
 pub returns : goal.returns
@@ -38,7 +40,8 @@ returns c =
     let s = plain_stored c.args.query.now in
     let t = c.in-Some.table.now in
     let there = table_named tables s.table c.in-Some.number t c.in-Some.ensures.0 c.in-Some.ensures.1 in
-    let whole = judged tables s t c.none-found.result c.resolve_where.new.found there c.none-found.ensures c.in_ok-condition.ensures.judged in
+    let seen : c.as_slice.result.now ≡ own_columns t = c.as_slice.ensures.value ∙ c.in_ok-columns.ensures in
+    let whole = judged tables s t c.none-found.result c.resolve_where.new.found there c.none-found.ensures (c.in_ok-condition.ensures.judged ∙ ap (λ (cs : List SeenColumn). either c.none-found.result (where_faults (test_faults t cs) s.condition)) seen) in
     let clean = clear_by c.resolve_where.new.found _ whole (sym c.first.ensures ∙ c.in_default-first.is) in
     record {
       sound = none_applies _ clean;
@@ -48,7 +51,7 @@ returns c =
             number = c.in-Some.ensures.0;
             table = c.in-Some.ensures.1;
             window = c.window_of.ensures;
-            rows = stored_placed t s.condition c.in_ok-condition.condition (sym (against (λ x. stored_faults x s) tables s.table t there) ∙ clean) c.in_ok-condition.ensures.numbered;
+            rows = stored_placed t c.as_slice.result.now s.condition c.in_ok-condition.condition seen (sym (against (λ x. stored_faults x s) tables s.table t there) ∙ clean) c.in_ok-condition.ensures.numbered;
           };
       refused = tt;
     }
