@@ -1,5 +1,5 @@
 -- The rows that a change adds are of its table: a value for each of its columns.
-use Rattle.std.proofs.Common.{◌≡◌, ◌∷◌, ◌||◌, ◌∙◌, ℤ, Bool, true, false, List, [], Option, None, Some, ap, inl, inr, map, refl, subst, sym}
+use Rattle.std.proofs.Common.{◌≡◌, ◌∷◌, ◌∙◌, ℤ, Bool, true, false, List, [], Option, None, Some, ap, inl, inr, map, refl, subst, sym}
 use Rattle.std.specs.Prelude.{◌==◌, int_lt, slice_get, if◌then◌else◌}
 use Rattle.std.specs.Int.{int_max, int_min}
 use Rattle.std.specs.List.{AllByRecursion, list_all, list_any}
@@ -21,11 +21,14 @@ use Rattle.sql_statements.specs.declared.statement.Assignment as written
 use Rattle.sql_statements.specs.declared.statement.InsertRows.{InsertRows}
 use Rattle.statement_resolution.proofs.lemmas.change.GivenValues.{all_at}
 use Rattle.catalog_core.proofs.lemmas.table.Named.{table_named}
-use Rattle.statement_resolution.specs.Flaws.{Flaw, OtherKind, TooLong, has_test, is_flawed_compare, is_flawed_portion, is_flawed_set}
+use Rattle.statement_resolution.proofs.lemmas.judged.FaultSums.{both_clear}
+use Rattle.statement_resolution.proofs.lemmas.judged.Refused.{against, clear_if_none}
+use Rattle.statement_resolution.specs.Faults.{faults_among, no_faults}
+use Rattle.statement_resolution.specs.TableFaults.{named_faults, rows_faults, set_faults, twice_fault}
 use Rattle.catalog_core.specs.RefusalConditions.{Holds}
 use Rattle.statement_resolution.specs.Positions.{resolved_assignment}
 use Rattle.statement_resolution.specs.change.Insertion.{gives_faulty_value, has_faulty_value}
-use Rattle.statement_resolution.specs.change.PortionChanges.{DeletesAs, UpdatesAs, is_flawed_update}
+use Rattle.statement_resolution.specs.change.PortionChanges.{DeletesAs, UpdatesAs, update_faults}
 use Rattle.statement_resolution.specs.change.Resolution.{ResolvesAction, ResolvesChange, RowParts, change_conditions, row_parts, written_row}
 use Rattle.catalog_core.specs.table.Naming.{Name, passes}
 use Rattle.catalog_core.specs.table.TableWords.{has_distinct_names, table_of, table_of_name, value_columns}
@@ -36,6 +39,7 @@ use Rattle.catalog_core.specs.declared.change.Change.{Change}
 use Rattle.catalog_core.specs.declared.change.InsertedRow.{InsertedRow}
 use Rattle.catalog_core.specs.declared.change.Plan.{Plan}
 use Rattle.statement_resolution.specs.declared.change.insert_values.ValueFault.TheVariants as fault
+use Rattle.statement_resolution.specs.declared.faults.Faults.{Faults}
 use Rattle.catalog_core.specs.declared.table.TableDef.{TableDef}
 use Rattle.history_model.specs.Effects.{with_set}
 use Rattle.history_model.specs.Portions.{PlainRow, added, leftovers, part, plain_given, plain_row, replacements, touches, within}
@@ -99,34 +103,27 @@ module _ (d : TableDef) (distinct : has_distinct_names d ≡ true) where
   abbrev Fits : Assignment → Type 0
   Fits a = (c : _) → slice_get (value_columns d) a.position ≡ Some c → is_of_column c.1.kind a.value ≡ true
 
-  sets_are : (ws : List written.Assignment) (assignments : List Assignment) → map (resolved_assignment d) ws ≡ map (λ (a : Assignment). Some a) assignments → list_any (λ (w : written.Assignment). is_flawed_set OtherKind d w) ws ≡ false → list_any (λ (w : written.Assignment). is_flawed_set TooLong d w) ws ≡ false →
+  sets_are : (ws : List written.Assignment) (assignments : List Assignment) → map (resolved_assignment d) ws ≡ map (λ (a : Assignment). Some a) assignments → faults_among (set_faults d) ws ≡ no_faults →
       AllByRecursion Fits assignments
-  sets_are [] [] same kinds lengths = tt
-  sets_are [] (a ∷ assignments) same kinds lengths = cc
-  sets_are (w ∷ ws) [] same kinds lengths = tt
-  sets_are (w ∷ ws) (a ∷ assignments) same kinds lengths =
+  sets_are [] [] same clean = tt
+  sets_are [] (a ∷ assignments) same clean = cc
+  sets_are (w ∷ ws) [] same clean = tt
+  sets_are (w ∷ ws) (a ∷ assignments) same clean =
       let first : resolved_assignment d w ≡ Some a = cc in
       let later : map (resolved_assignment d) ws ≡ map (λ (b : Assignment). Some b) assignments = cc in
-      let kind = or_parts (is_flawed_set OtherKind d w) (list_any (λ (x : written.Assignment). is_flawed_set OtherKind d x) ws) kinds in
-      let long = or_parts (is_flawed_set TooLong d w) (list_any (λ (x : written.Assignment). is_flawed_set TooLong d x) ws) lengths in
-      (fits_set d distinct w a first kind.0 long.0, sets_are ws assignments later kind.1 long.1)
+      let parts = both_clear (set_faults d w) (faults_among (set_faults d) ws) clean in
+      (fits_set d distinct w a first parts.0, sets_are ws assignments later parts.1)
 
-  -- an UPDATE without a flaw has no assignment with it
-  unflawed_sets : (flaw : Flaw) (u : Update) → is_flawed_update flaw u d ≡ false → list_any (λ (w : written.Assignment). is_flawed_set flaw d w) u.assignments ≡ false
-  unfolding is_flawed_update
-  unflawed_sets flaw u none =
-      let behind = (or_parts (is_flawed_portion flaw d u.portion) (list_any (λ (w : written.Assignment). is_flawed_set flaw d w) u.assignments || has_test (is_flawed_compare flaw d) u.condition) none).1 in
-      (or_parts (list_any (λ (w : written.Assignment). is_flawed_set flaw d w) u.assignments) (has_test (is_flawed_compare flaw d) u.condition) behind).0
-
-  update_adds : (u : Update) (a : Action) → is_flawed_update OtherKind u d ≡ false → is_flawed_update TooLong u d ≡ false → UpdatesAs d u a → (touched : List PlainRow) → AllByRecursion (IsOf d) touched → AllByRecursion (IsOf d) (added a touched)
-  update_adds u (action.Insert given) kinds lengths same touched are = absurd same
-  update_adds u (action.Update portion assignments condition) kinds lengths same touched are =
-      let fits = sets_are u.assignments assignments same.sets (unflawed_sets OtherKind u kinds) (unflawed_sets TooLong u lengths) in
+  update_adds : (u : Update) (a : Action) → update_faults d u ≡ no_faults → UpdatesAs d u a → (touched : List PlainRow) → AllByRecursion (IsOf d) touched → AllByRecursion (IsOf d) (added a touched)
+  unfolding update_faults
+  update_adds u (action.Insert given) clean same touched are = absurd same
+  update_adds u (action.Update portion assignments condition) clean same touched are =
+      let fits = sets_are u.assignments assignments same.sets (both_clear (rows_faults d u.portion u.condition) (faults_among (set_faults d) u.assignments) clean).1 in
       all-flat_map (IsOf d) (replacements (action.Update portion assignments condition)) touched
       (all_weaker (IsOf d) (λ (r : PlainRow). AllByRecursion (IsOf d) (replacements (action.Update portion assignments condition) r))
       (λ r is. all-append (IsOf d) (leftovers portion r) (within portion (with_set assignments r.values) r) (leftovers_are d portion r is)
       (within_is d portion (with_set assignments r.values) r (set_each (value_columns d) assignments r.values fits is))) touched are)
-  update_adds u (action.Delete portion condition) kinds lengths same touched are = absurd same
+  update_adds u (action.Delete portion condition) clean same touched are = absurd same
 
   delete_adds : (s : Delete) (a : Action) → DeletesAs d s a → (touched : List PlainRow) → AllByRecursion (IsOf d) touched → AllByRecursion (IsOf d) (added a touched)
   delete_adds s (action.Insert given) same touched are = absurd same
@@ -159,9 +156,10 @@ module _ (tables : List TableDef) (distinct : list_all has_distinct_names tables
   adds (statement.update u) sound resolved d there touched are =
       let same : resolved.definition ≡ d = same_Some resolved.definition d (sym resolved.table ∙ there) in
       let named = table_named tables u.table change.table resolved.definition resolved.number resolved.table in
+      let faults : TableDef → Faults = λ t. update_faults t u in
+      let clean = (both_clear (named_faults faults tables u.table) (twice_fault u.assignments) (clear_if_none _ sound)).0 in
       let all = update_adds resolved.definition (its_names resolved.definition resolved.table) u change.action
-      (at_table tables u.table resolved.definition (is_flawed_update OtherKind u) named (λ is. sound TypeMismatch (inr (inr (inr (inr (inr (inl (refl, is)))))))))
-      (at_table tables u.table resolved.definition (is_flawed_update TooLong u) named (λ is. sound TextTooLong (inr (inr (inr (inr (inr (inr (inl (refl, is))))))))))
+      (sym (against faults tables u.table resolved.definition named) ∙ clean)
       resolved.action touched (subst (λ (t : TableDef). AllByRecursion (IsOf t) touched) (sym same) are) in
       subst (λ (t : TableDef). AllByRecursion (IsOf t) (added change.action touched)) same all
   adds (statement.delete s) sound resolved d there touched are =

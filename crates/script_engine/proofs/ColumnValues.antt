@@ -15,7 +15,8 @@ use Rattle.sql_statements.specs.declared.statement.Assignment as written
 use Rattle.statement_resolution.proofs.lemmas.change.GivenValues.{found_first}
 use Rattle.catalog_core.proofs.lemmas.judged.Sound.{fails_at}
 use Rattle.catalog_core.proofs.lemmas.table.Distinct.{its_place}
-use Rattle.statement_resolution.specs.Flaws.{OtherKind, TooLong, is_flawed_set}
+use Rattle.statement_resolution.specs.Faults.{no_faults}
+use Rattle.statement_resolution.specs.TableFaults.{set_faults}
 use Rattle.statement_resolution.specs.Positions.{resolved_assignment}
 use Rattle.statement_resolution.specs.change.Insertion.{given_value, given_values, gives_faulty_value, is_longer, is_of_other_kind, is_too_long, is_faulty}
 use Rattle.catalog_core.specs.query.Selection.{value_position}
@@ -24,6 +25,7 @@ use Rattle.catalog_core.specs.table.Naming.{Name, find_among, place_among}
 use Rattle.catalog_core.specs.table.TableWords.{def_kind, has_distinct_names, is_value_column, value_columns, value_names}
 use Rattle.catalog_core.specs.declared.change.Assignment.{Assignment}
 use Rattle.statement_resolution.specs.declared.change.insert_values.ValueFault.TheVariants as fault
+use Rattle.statement_resolution.specs.declared.faults.Faults.{Faults}
 use Rattle.catalog_core.specs.declared.table.Column.{Column}
 use Rattle.catalog_core.specs.declared.table.ColumnKind.{ColumnKind}
 use Rattle.catalog_core.specs.declared.table.ColumnKind.TheVariants as kind
@@ -157,9 +159,9 @@ module _ (t : TableDef) (distinct : has_distinct_names t ≡ true) where
   named_at (x ∷ columns) zero c d there = ap (λ (y : ℕ × Column). y.1.name) (same_Some x c there)
   named_at (x ∷ columns) (suc n) c d there = named_at columns n c d there
 
-  pub fits_set : (w : written.Assignment) (a : Assignment) → resolved_assignment t w ≡ Some a → is_flawed_set OtherKind t w ≡ false → is_flawed_set TooLong t w ≡ false → FitsAt (value_columns t) a.position a.value
-  unfolding is_flawed_set value_position
-  fits_set w a is kinds lengths c there = go (value_position t w.column) refl is
+  pub fits_set : (w : written.Assignment) (a : Assignment) → resolved_assignment t w ≡ Some a → set_faults t w ≡ no_faults → FitsAt (value_columns t) a.position a.value
+  unfolding set_faults value_position
+  fits_set w a is clean c there = go (value_position t w.column) refl is
     where
       go : (o : Option ℕ) → value_position t w.column ≡ o → option_map (λ (n : ℕ). record { position = n; value = w.value }) o ≡ Some a → is_of_column c.1.kind a.value ≡ true
       go None at none = absurd (none-some a none)
@@ -169,7 +171,8 @@ module _ (t : TableDef) (distinct : has_distinct_names t ≡ true) where
           let first = position-Some (bytes_eq w.column) (value_names t) n c.1.name at in
           let name : get_or (value_names t) n c.1.name ≡ c.1.name = named_at (value_columns t) n c c.1.name (subst (λ (m : ℕ). slice_get (value_columns t) m ≡ Some c) (sym place) there) in
           let named : bytes_eq w.column c.1.name ≡ true = subst (λ (m : Name). bytes_eq w.column m ≡ true) name first.1 in
-          let fits : is_of_column c.1.kind w.value ≡ true = fits_named c.0 c.1 w.column w.value (all-slice_get IsThere (value_columns t) a.position c there are_there) named kinds lengths in
+          let fits : is_of_column c.1.kind w.value ≡ true = fits_named c.0 c.1 w.column w.value (all-slice_get IsThere (value_columns t) a.position c there are_there) named
+          (ap (λ (f : Faults). f.kinds) clean) (ap (λ (f : Faults). f.long) clean) in
           subst (λ (v : Value). is_of_column c.1.kind v ≡ true) (ap (λ (b : Assignment). b.value) same) fits
 
 -- values of columns, one of them set anew, are values of the columns

@@ -14,7 +14,6 @@ use Rattle.temporal_model.proofs.Members.{Contains-here, Contains-one}
 use Rattle.temporal_model.proofs.Snapshots.{held, in_snapshot}
 use Rattle.sql_statements.specs.Trees.{Delete}
 use Rattle.sql_statements.specs.Trees as statement
-use Rattle.statement_resolution.specs.change.PortionChanges.{lacks_named}
 use Rattle.statement_resolution.specs.change.Resolution.{change_conditions, empty_period}
 use Rattle.catalog_core.specs.table.TableWords.{number_of, table_of_name}
 use Rattle.catalog_core.proofs.lemmas.judged.Least.{first_least}
@@ -26,15 +25,15 @@ use Rattle.script_engine.specs.engine.Runs.{MayRefuseMoment, Step}
 
 -- a DELETE from a table that is missing is refused by 23, and the history stays
 no_table : (rows : Delete) → Step (opened new_database) (statement.delete rows) (Err UnknownTable) (opened new_database)
-unfolding lacks_named number_of table_of_name
+unfolding number_of table_of_name
 no_table rows = (
-  inl (inl (inl (first_least (change_conditions [] (statement.delete rows) ++ empty_period [] (statement.delete rows) ∷ []) UnknownTable (lit≤ tt, (lit≤ tt, (lit≤ tt, (lit≤ tt, (lit≤ tt, (lit≤ tt, (lit≤ tt, tt))))))) refl))),
+  inl (inl (inl (first_least (change_conditions [] (statement.delete rows) ++ empty_period [] (statement.delete rows) ∷ []) UnknownTable (lit≤ tt, (lit≤ tt, (lit≤ tt, (lit≤ tt, (lit≤ tt, (lit≤ tt, (lit≤ tt, (lit≤ tt, (lit≤ tt, (lit≤ tt, tt)))))))))) refl))),
   refl,
 )
 
 -- the database is not blamed for the refusal
 not_the_database : (rows : Delete) → Step (opened new_database) (statement.delete rows) (Err Store) (opened new_database) → ⊥
-unfolding lacks_named number_of table_of_name
+unfolding number_of table_of_name
 not_the_database rows step =
     elim step.0 [
       | inl refused ↦ elim refused [

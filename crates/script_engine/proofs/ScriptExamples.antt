@@ -28,7 +28,6 @@ use Rattle.sql_front.proofs.Parsing.{no_statement, spelled_some}
 use Rattle.sql_front.proofs.PieceFaults.{piece_none}
 use Rattle.sql_front.proofs.Spelling.{none_if_unread, spelled_if_read}
 use Rattle.sql_front.proofs.StatementsRead.{read_spelled}
-use Rattle.statement_resolution.specs.change.PortionChanges.{lacks_named}
 use Rattle.statement_resolution.specs.stored.StoredQueries.{stored_conditions}
 use Rattle.catalog_core.specs.table.TableWords.{number_of, table_of_name}
 use Rattle.catalog_core.proofs.lemmas.judged.Least.{first_least}
@@ -143,9 +142,9 @@ checked = record { pieces = lookup ∷ letter ∷ []; cut = cut; checked = (((lo
 
 -- run: the first is refused with 23, since there is no table T; the history stays
 lookup_step : PieceStep (opened new_database) lookup (Err UnknownTable) (opened new_database)
-unfolding lacks_named number_of table_of_name
+unfolding number_of table_of_name
 lookup_step =
-    inr (looked_up, lookup_sound, lookup_spelled, (inl (inl (first_least (stored_conditions [] looked_up) UnknownTable (lit≤ tt, (lit≤ tt, (lit≤ tt, (lit≤ tt, (lit≤ tt, (lit≤ tt, tt)))))) refl)), refl))
+    inr (looked_up, lookup_sound, lookup_spelled, (inl (inl (first_least (stored_conditions [] looked_up) UnknownTable (lit≤ tt, (lit≤ tt, (lit≤ tt, (lit≤ tt, (lit≤ tt, (lit≤ tt, (lit≤ tt, (lit≤ tt, (lit≤ tt, tt))))))))) refl)), refl))
 
 -- the second piece is refused as it is if the script is checked
 run : IsRunOf script_text (Err UnknownTable ∷ Err Syntax ∷ [])

@@ -25,9 +25,7 @@ use Rattle.catalog_core.specs.create.Places.{has_system_columns, declared_at, ki
 use Rattle.history_model.specs.Histories.{Queried, Changed, Created, History, last_state, new_database, opened, with_event}
 use Rattle.history_model.specs.Versions.{plain_version}
 use Rattle.version_store.specs.Contents.{version_cmp, version_in}
-use Rattle.statement_resolution.specs.Flaws.{is_flawed_column, is_flawed_compare, is_flawed_period, is_flawed_test}
-use Rattle.statement_resolution.specs.change.PortionChanges.{lacks_named}
-use Rattle.statement_resolution.specs.stored.StoredQueries.{is_flawed_stored, stored_conditions}
+use Rattle.statement_resolution.specs.stored.StoredQueries.{stored_conditions}
 use Rattle.statement_resolution.specs.change.Insertion.{wanted_names, given_names, lacks_table, lists_unknown, lists_ambiguous, repeats_column, is_system_name, some_system_name, lists_system, omits_column, has_row_of_other_length, has_other_count, is_of_other_kind, is_longer, is_too_long, is_faulty, gives_faulty_value, has_faulty_value, given_value, value_for, is_no_period, gives_no_period, has_no_period}
 use Rattle.catalog_core.specs.RefusalConditions.{Holds, RefusalCondition, first_holding}
 use Rattle.catalog_core.specs.table.Kinds.{kind_of_column, same_kind, differ}
@@ -220,7 +218,7 @@ one_row v k d low high = absurd (omega arith)
 
 -- the row is shown, and stays
 stored : Step with_row (statement.stored all_of_emp) (Ok (Versions (shown (kept ∷ [])))) (with_event with_row Queried)
-unfolding is_flawed_stored is_flawed_test is_flawed_compare is_flawed_column is_flawed_period lacks_named is_matching find_among matches_among differ same_kind kind_of_column def_kind is_value_column number_of table_of_name
+unfolding is_matching find_among matches_among differ same_kind kind_of_column def_kind is_value_column number_of table_of_name
 stored = (
   none_if_no_first (stored_conditions (emp ∷ []) (statement.stored all_of_emp)) refl,
   (

@@ -2,7 +2,7 @@ pub mod Limits
 pub mod Faults
 pub mod change
 pub mod query
-pub mod Flaws
+pub mod TableFaults
 pub mod Positions
 pub mod Placing
 pub mod SystemWindows

@@ -1,11 +1,13 @@
--- For private functions: comparisons by positions, where a name without a position has 0. No
--- statement that is accepted has such a name.
+-- For private functions: comparisons and assignments by positions, where a name without a position
+-- has 0. No statement that is accepted has such a name.
 use Rattle.std.specs.Prelude.{ℕ, Option, Some, None}
+use Rattle.sql_statements.specs.declared.statement.Assignment as written
 use Rattle.sql_statements.specs.declared.statement.ColumnReference.{ColumnReference}
 use Rattle.sql_statements.specs.declared.statement.Compare.{Compare}
 use Rattle.sql_statements.specs.declared.statement.Operand.{Operand}
 use Rattle.sql_statements.specs.declared.statement.Operand.TheVariants as operand
 use Rattle.catalog_core.specs.query.Selection.{value_position}
+use Rattle.catalog_core.specs.declared.change.Assignment.{Assignment}
 use Rattle.catalog_core.specs.declared.condition.Comparand.{Comparand}
 use Rattle.catalog_core.specs.declared.condition.Comparand.TheVariants.{Position, Literal}
 use Rattle.catalog_core.specs.declared.condition.CompareValues.{CompareValues}
@@ -30,14 +32,6 @@ place_compare place c =
       right = place_side place c.right;
     }
 
--- the place of a column in a row of a table
-abbrev pub table_place : TableDef → ColumnReference → ℕ
-table_place t r = or_zero (value_position t r.name)
-
--- a side in a row of a table
-abbrev pub placed_side : TableDef → Operand → Comparand
-placed_side t side = place_side (table_place t) side
-
--- a comparison in a row of a table
-abbrev pub placed_compare : TableDef → Compare → CompareValues
-placed_compare t c = place_compare (table_place t) c
+-- an assignment
+abbrev pub placed_assignment : TableDef → written.Assignment → Assignment
+placed_assignment t a = record { position = or_zero (value_position t a.column); value = a.value }

@@ -1,158 +1,72 @@
-//! Comparisons: what is wrong with one, and what it is with positions in place of names.
+//! Comparisons with positions in place of names, and their faults.
 
 ghost use Rattle.std.specs.Prelude.{◌≡◌, IfOk};
-ghost use Rattle.statement_resolution.specs.Placing.{place_compare, place_side};
+ghost use Rattle.statement_resolution.specs.Faults.{either};
+ghost use Rattle.statement_resolution.specs.Placing.{place_side};
 ghost use Rattle.statement_resolution.specs.query.Faults as judged;
+ghost use Rattle.statement_resolution.specs.query.Faults.{matches_among};
+ghost use Rattle.statement_resolution.specs.query.Places.{place_among};
 
 use crate::faults::Faults;
-use crate::query::seen::is_qualified;
-use crate::query::seen_column::Matched;
+use crate::query::scope::Scope;
 use crate::resolver::Resolver;
-use catalog_core::{
-    Comparand, CompareValues, TableDef, ValueKind, def_kind, def_matches, differ, kind_of_value,
-    names_non_value_column, value_position,
-};
+use catalog_core::{Comparand, CompareValues, ValueKind, differ, kind_of_value};
 use period_core::Memory;
-use sql_statements::{ColumnReference, Compare, Operand};
+use sql_statements::{Compare, Operand};
 use std::alloc::Global;
 
-/// The columns that names match at a place of a statement, and their positions: 0 for a name that
-/// has none, which no accepted statement has.
-pub trait ColumnNames {
-    ghost use Rattle.std.specs.Prelude.{◌≡◌, ℕ, List};
-    ghost use Rattle.sql_statements.specs.declared.statement.ColumnReference.{ColumnReference as Named};
-    ghost use Rattle.statement_resolution.specs.query.Matched.{matched};
-    ghost use Rattle.statement_resolution.specs.query.Scopes.{SeenColumn};
-
-    /// The columns that a name matches.
-    ghost matches: { Self → Named → List SeenColumn };
-
-    /// The position of a name.
-    ghost place: { Self → Named → ℕ };
-
-    /// The columns and periods that a name matches.
-    fn look_up(&self, column: &ColumnReference) -> Matched
-        ensures { result ≡ matched (matches self.now column.now) };
-
-    /// The position of a name.
-    fn position(&self, column: &ColumnReference) -> usize
-        ensures { result ≡ place self.now column.now };
-}
-
-impl ColumnNames for TableDef {
-    ghost use Rattle.statement_resolution.specs.Flaws.{own_matches};
-    ghost use Rattle.statement_resolution.specs.Placing.{table_place};
-
-    ghost matches = { λ t r. own_matches t r };
-
-    ghost place = { λ t r. table_place t r };
-
-    fn look_up(&self, column: &ColumnReference) -> Matched {
-        if !is_qualified(&column.qualifier, &self.name) {
-            return Matched::none();
-        }
-        Matched {
-            kind: def_kind(self, &column.name),
-            several: def_matches(self, &column.name) > 1,
-            period: names_non_value_column(self, &column.name),
-        }
-    }
-
-    fn position(&self, column: &ColumnReference) -> usize {
-        match value_position(self, &column.name) {
-            Some(position) => position,
-            None => 0,
-        }
-    }
-}
-
-/// A side of a comparison: what is wrong with it, and its kind.
-#[derive(Clone, Copy)]
-struct CheckedOperand {
-    faults: Faults,
+/// A side of a comparison by its position, and its kind.
+#[derive(Drop)]
+struct ResolvedSide {
+    side: Comparand,
     kind: Option<ValueKind>,
 }
 
-/// A side of a comparison, by the columns that its name matches.
+/// A side of a comparison. Its faults are added to those found so far.
 #[tactic(auto, using(crate::proofs::lemmas::query::Matching::found_match))]
-fn check_operand<N: ColumnNames>(names: &N, side: &Operand) -> CheckedOperand
-    ensures faults { result.faults ≡ judged.side_faults (N.matches names.now) side.now }
-    ensures kind { result.kind ≡ judged.side_kind (N.matches names.now) side.now }
+fn resolve_side(
+    alloc: Global,
+    scope: &Scope<'_>,
+    side: &Operand,
+    found: &mut Faults,
+) -> Result<ResolvedSide, Memory>
+    ensures numbered { IfOk result (λ numbered. numbered.side
+        ≡ place_side (place_among scope.now.before.now scope.now.seen.now) side.now) }
+    ensures kind { IfOk result (λ numbered. numbered.kind
+        ≡ judged.side_kind (matches_among scope.now.seen.now) side.now) }
+    ensures judged { IfOk result (λ _. found.new ≡ either found.old
+        (judged.side_faults (matches_among scope.now.seen.now) side.now)) }
 {
     match side {
         Operand::Column(column) => {
-            let found = names.look_up(column);
-            CheckedOperand {
-                faults: found.faults(),
-                kind: found.kind,
-            }
+            let named = scope.look_up(column);
+            *found = found.or(named.matched.faults());
+            Ok(ResolvedSide {
+                side: Comparand::Position(named.position),
+                kind: named.matched.kind,
+            })
         }
-        Operand::Literal(value) => CheckedOperand {
-            faults: Faults::none(),
+        Operand::Literal(value) => Ok(ResolvedSide {
+            side: Comparand::Literal(value.copy(alloc)?),
             kind: Some(kind_of_value(value)),
-        },
+        }),
     }
 }
 
-/// The faults of a comparison.
-#[tactic(auto, unfolding(crate::specs::query::Faults::compare_faults))]
-pub fn compare_faults<N: ColumnNames>(names: &N, compare: &Compare) -> Faults
-    ensures { result ≡ judged.compare_faults (N.matches names.now) compare.now }
-{
-    let left = check_operand(names, &compare.left);
-    let right = check_operand(names, &compare.right);
-    let kinds = Faults {
-        kinds: differ(left.kind, right.kind),
-        ..Faults::none()
-    };
-    left.faults.or(right.faults).or(kinds)
-}
-
-/// A side of a comparison.
-fn resolve_operand<N: ColumnNames>(
-    alloc: Global,
-    names: &N,
-    side: &Operand,
-) -> Result<Comparand, Memory>
-    ensures { IfOk result (λ numbered. numbered ≡ place_side (N.place names.now) side.now) }
-{
-    match side {
-        Operand::Column(column) => Ok(Comparand::Position(names.position(column))),
-        Operand::Literal(value) => Ok(Comparand::Literal(value.copy(alloc)?)),
-    }
-}
-
-/// A comparison.
-pub fn resolve_comparison<N: ColumnNames>(
-    alloc: Global,
-    names: &N,
-    compare: &Compare,
-) -> Result<CompareValues, Memory>
-    ensures { IfOk result
-        (λ numbered. numbered ≡ place_compare (N.place names.now) compare.now) }
-{
-    let left = resolve_operand(alloc, names, &compare.left)?;
-    let right = resolve_operand(alloc, names, &compare.right)?;
-    Ok(CompareValues {
-        left,
-        comparison: compare.comparison,
-        right,
-    })
-}
-
-impl Resolver<Compare> for TableDef {
+impl<'a> Resolver<Compare> for Scope<'a> {
     ghost use Rattle.std.specs.Prelude.{Option, Some};
-    ghost use Rattle.statement_resolution.specs.Flaws.{faults_of, is_flawed_compare};
-    ghost use Rattle.statement_resolution.specs.Placing.{placed_compare};
+    ghost use Rattle.statement_resolution.specs.Placing.{place_compare};
+    ghost use Rattle.statement_resolution.specs.query.Faults.{compare_faults, matches_among};
+    ghost use Rattle.statement_resolution.specs.query.Places.{place_among};
     ghost use Rattle.catalog_core.specs.declared.condition.CompareValues.{CompareValues as Resolved};
 
     type Resolved = CompareValues;
 
     ghost Parts = { Option Resolved };
 
-    ghost faults = { λ t c. faults_of (λ flaw. is_flawed_compare flaw t c) };
+    ghost faults = { λ s c. compare_faults (matches_among s.seen.now) c };
 
-    ghost placed = { λ t c. Some (placed_compare t c) };
+    ghost placed = { λ s c. Some (place_compare (place_among s.before.now s.seen.now) c) };
 
     ghost parts = { λ numbered. Some numbered };
 
@@ -162,8 +76,16 @@ impl Resolver<Compare> for TableDef {
         test: &Compare,
         found: &mut Faults,
     ) -> Result<CompareValues, Memory> {
-        let numbered = resolve_comparison(alloc, self, test)?;
-        *found = found.or(compare_faults(self, test));
-        Ok(numbered)
+        let left = resolve_side(alloc, self, &test.left, found)?;
+        let right = resolve_side(alloc, self, &test.right, found)?;
+        *found = found.or(Faults {
+            kinds: differ(left.kind, right.kind),
+            ..Faults::none()
+        });
+        Ok(CompareValues {
+            left: left.side,
+            comparison: test.comparison,
+            right: right.side,
+        })
     }
 }

@@ -1,5 +1,5 @@
 //! The refusals of a query, an UPDATE or a DELETE that apply: they are collected over all its
-//! parts, and the lowest-numbered of them is reported.
+//! parts, and the lowest-numbered is reported.
 
 ghost use Rattle.std.specs.Prelude.{◌≡◌};
 ghost use Rattle.statement_resolution.specs.Faults.{either, fault_conditions, no_faults};

@@ -5,14 +5,13 @@
 //!
 //! - a form of change or query: its conditions and what it is by positions in the folder of that
 //! name in `specs/`, and a file like `change/portion_changes.rt` or `query/resolution.rt`;
-//! - a refusal of a statement: the list of its conditions (`insert_conditions`,
-//!   `update_conditions`, `delete_conditions`, `refusals_of`, `stored_query_conditions`), and the
-//!   function that judges them (`shape_fault`, `value_fault`, `update_fault`, `delete_fault`,
-//!   `Faults::first`), both in ascending order; what may be wrong with a part of a query, an UPDATE
-//!   or a DELETE is one of `Faults`; the refusals of CREATE TABLE are in `catalog_core`;
+//! - a refusal of a statement: of INSERT the list of its conditions (`insert_conditions`) and the
+//!   function that judges them (`shape_fault`, `value_fault`), both in ascending order; of the other
+//!   forms one of `Faults`, in `fault_conditions` and `Faults::first` in ascending order, and the
+//!   faults of the part that may have it. The refusals of CREATE TABLE are in `catalog_core`;
 //! - a test of a condition: its faults and its positions in its `Resolver` (`comparison.rt`,
-//!   `stored/conditions.rt`), as `specs/Flaws`, `specs/Positions` and `specs/stored/StoredQueries`
-//!   define them.
+//!   `stored/conditions.rt`), as `specs/TableFaults`, `specs/Positions` and
+//!   `specs/stored/StoredQueries` define them.
 #![tactic(auto)]
 
 mod change;

@@ -1,1 +1,2 @@
 pub mod FaultSums
+pub mod Refused

@@ -4,7 +4,6 @@ pub mod ColumnLists
 pub mod ReferenceLists
 pub mod ScopeFaults
 pub mod QueryWalks
-pub mod QueryFaults
 pub mod ValuePlaces
 pub mod Members
 pub mod Converted

@@ -1,2 +1,1 @@
 pub mod StoredNumbers
-pub mod StoredFaults

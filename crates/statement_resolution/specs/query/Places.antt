@@ -1,8 +1,8 @@
 -- For private functions: a query by positions, where a name without a position has 0, and so has a
 -- table that is missing. No query that is accepted has such a name.
-use Rattle.std.specs.Prelude.{◌≡◌, ◌+◌, ◌||◌, ◌∷◌, ℕ, Bool, false, true, List, [], Option, None}
-use Rattle.std.specs.Prelude.{Some, filter, length, map}
-use Rattle.std.specs.List.{list_any, position}
+use Rattle.std.specs.Prelude.{◌≡◌, ◌+◌, ◌∷◌, ℕ, true, List, [], Option, None, Some, filter, length}
+use Rattle.std.specs.Prelude.{map}
+use Rattle.std.specs.List.{position}
 use Rattle.std.specs.Option.{option_map}
 use Rattle.sql_statements.specs.Trees as written
 use Rattle.sql_statements.specs.Trees.{Condition, Select}
@@ -10,11 +10,11 @@ use Rattle.sql_statements.specs.declared.statement.ColumnReference.{ColumnRefere
 use Rattle.sql_statements.specs.declared.statement.Compare.{Compare}
 use Rattle.sql_statements.specs.declared.statement.SelectItem.{SelectItem}
 use Rattle.sql_statements.specs.declared.statement.TableReference.{TableReference}
-use Rattle.statement_resolution.specs.Faults.{either}
+use Rattle.statement_resolution.specs.Faults.{either, no_faults}
 use Rattle.statement_resolution.specs.Positions.{map_condition}
 use Rattle.statement_resolution.specs.Placing.{or_zero, place_compare}
 use Rattle.statement_resolution.specs.SystemWindows.{window_of}
-use Rattle.statement_resolution.specs.query.Faults.{query_faults, select_faults, side_kinds}
+use Rattle.statement_resolution.specs.query.Faults.{query_faults, side_kinds}
 use Rattle.statement_resolution.specs.query.QueryParts.{first_select, selects_of}
 use Rattle.statement_resolution.specs.query.Resolving.{Placed, ReferenceParts, ResolvesTree}
 use Rattle.statement_resolution.specs.query.Resolving.{column_position, members, value_kinds}
@@ -73,19 +73,13 @@ placed_reference catalog r = (
 
 -- ---- a query by positions, and its faults
 
--- a select lacks a table, or names a column wrongly
-abbrev pub is_refused : List TableDef → Select → Bool
-is_refused catalog select =
-    (select_faults catalog select).table
-    || ((select_faults catalog select).unknown || (select_faults catalog select).period)
-
 -- the number of table references that selects have
 abbrev pub table_count : List Select → ℕ
 table_count [] = 0
 table_count (select ∷ selects) = length (tables_of select) + table_count selects
 
--- a side is the query by positions, if nothing is wrong with its names; its references have the
--- places from one up to another, and the query's faults are added to those before
+-- a side is the query by positions, if it has no fault; its references have the places from one up
+-- to another, and the query's faults are added to those before
 pub record Converts
     (catalog : List TableDef)
     (query : written.Query)
@@ -94,7 +88,7 @@ pub record Converts
     (side : Side)
     : Type 0
   where
-    pub same : list_any (is_refused catalog) (selects_of query) ≡ false
+    pub same : query_faults catalog query ≡ no_faults
         → ResolvesTree catalog query (plain_query side.query)
     pub placed : are_in_place place (references_of (plain_query side.query)) ≡ true
     pub counted : place + length (references_of (plain_query side.query)) ≡ next

@@ -1,7 +1,7 @@
 -- Names in a select: which tables its conditions and its select list see, and which columns a name
 -- matches there.
 use Rattle.std.specs.Prelude.{◌++◌, ◌&&◌, ℕ, Bool, true, List, [], ◌∷◌, Option, Some, None}
-use Rattle.std.specs.Prelude.{bytes_eq, filter, flat_map, map}
+use Rattle.std.specs.Prelude.{bytes_eq, flat_map, map}
 use Rattle.std.specs.List.{enumerate_from}
 use Rattle.sql_statements.specs.Trees.{Condition, Join, JoinChain, Select}
 use Rattle.sql_statements.specs.declared.statement.ColumnReference.{ColumnReference}
@@ -78,6 +78,10 @@ declared_columns name (Some table) =
     record { known_as = name; table = table; place = c.0; column = c.1 })
     (enumerate_from 0 table.columns)
 
+-- the columns of a table that is known by its own name
+abbrev pub own_columns : TableDef → List SeenColumn
+own_columns table = declared_columns table.name (Some table)
+
 -- the columns of the tables
 abbrev pub seen_columns : List TableDef → List TableReference → List SeenColumn
 seen_columns catalog tables =
@@ -94,11 +98,6 @@ is_qualified (Some qualifier) name = bytes_eq qualifier name
 abbrev pub names_column : ColumnReference → SeenColumn → Bool
 names_column reference seen =
     is_qualified reference.qualifier seen.known_as && bytes_eq reference.name seen.column.name
-
--- the columns that a reference names in a table that is known by a name
-abbrev pub matches_in : Name → TableDef → ColumnReference → List SeenColumn
-matches_in name table reference =
-    filter (names_column reference) (declared_columns name (Some table))
 
 -- a column that rows have a value for
 abbrev pub has_value : SeenColumn → Bool

@@ -1,9 +1,6 @@
 -- A stored query: when it is refused, and what it is with positions for names.
-use Rattle.std.specs.Prelude.{◌≡◌, ◌∷◌, ℤ, Bool, List, [], Option, Some}
+use Rattle.std.specs.Prelude.{◌≡◌, ℤ, List, [], Option, Some}
 use Rattle.std.specs.Option.{option_map}
-use Rattle.period_core.specs.declared.refusal.Refusal.TheVariants.{UnknownTable, UnknownColumn}
-use Rattle.period_core.specs.declared.refusal.Refusal.TheVariants.{AmbiguousColumn, PeriodColumn}
-use Rattle.period_core.specs.declared.refusal.Refusal.TheVariants.{TypeMismatch, EmptyPeriod}
 use Rattle.sql_statements.specs.Trees as written
 use Rattle.sql_statements.specs.Trees.{Condition, Statement, stored}
 use Rattle.sql_statements.specs.declared.statement.PeriodOperand.{PeriodOperand}
@@ -12,13 +9,12 @@ use Rattle.sql_statements.specs.declared.statement.PeriodPredicate.{PeriodPredic
 use Rattle.sql_statements.specs.declared.statement.StoredTest.{StoredTest}
 use Rattle.sql_statements.specs.declared.statement.StoredTest.TheVariants as written_test
 use Rattle.sql_statements.specs.declared.tree.Tree.{Tree}
-use Rattle.statement_resolution.specs.Flaws.{Flaw, Unknown, Ambiguous, NotValueColumn, OtherKind}
-use Rattle.statement_resolution.specs.Flaws.{Empty}
-use Rattle.statement_resolution.specs.Flaws.{has_test, is_flawed_test}
+use Rattle.statement_resolution.specs.Faults.{fault_conditions, where_faults}
+use Rattle.statement_resolution.specs.TableFaults.{named_faults, test_faults}
+use Rattle.statement_resolution.specs.query.Scopes.{own_columns}
 use Rattle.catalog_core.specs.RefusalConditions.{RefusalCondition}
 use Rattle.statement_resolution.specs.Positions.{ReplacesWhere, resolved_comparison}
 use Rattle.statement_resolution.specs.SystemWindows.{window_of}
-use Rattle.statement_resolution.specs.change.PortionChanges.{lacks_named, of_named}
 use Rattle.catalog_core.specs.table.TableWords.{number_of, table_of}
 use Rattle.catalog_core.specs.declared.condition.CompareValues.{CompareValues}
 use Rattle.catalog_core.specs.declared.stored.PeriodSide.{PeriodSide}
@@ -26,6 +22,7 @@ use Rattle.catalog_core.specs.declared.stored.PeriodSide.TheVariants.{Row, Days}
 use Rattle.catalog_core.specs.declared.stored.Stored.{Stored}
 use Rattle.catalog_core.specs.declared.stored.VersionTest.{VersionTest}
 use Rattle.catalog_core.specs.declared.stored.VersionTest.TheVariants.{Values, Periods, ContainsDay}
+use Rattle.statement_resolution.specs.declared.faults.Faults.{Faults}
 use Rattle.catalog_core.specs.declared.table.TableDef.{TableDef}
 
 -- ==== refusals ====
@@ -35,31 +32,16 @@ abbrev pub IsStored : Statement → Type 0
 IsStored (stored s) = Unit {0}
 IsStored _ = ⊥
 
--- a test of its condition has the flaw
-unfoldable pub is_flawed_stored : Flaw → written.Stored → TableDef → Bool
-is_flawed_stored flaw s t = has_test (is_flawed_test flaw t) s.condition
-
--- 24 to 30 and 41 over the table that exists
-abbrev pub stored_faults : TableDef → written.Stored → List RefusalCondition
-stored_faults t s =
-    (UnknownColumn, is_flawed_stored Unknown s t)
-    ∷ (AmbiguousColumn, is_flawed_stored Ambiguous s t)
-    ∷ (PeriodColumn, is_flawed_stored NotValueColumn s t)
-    ∷ (TypeMismatch, is_flawed_stored OtherKind s t)
-    ∷ (EmptyPeriod, is_flawed_stored Empty s t)
-    ∷ []
+-- the faults of a stored query against its table: 24, 25, 27, 30 and 41; a column in the place of a
+-- period is unknown
+abbrev pub stored_faults : TableDef → written.Stored → Faults
+stored_faults t s = where_faults (test_faults t (own_columns t)) s.condition
 
 -- the refusals that a stored query may get by its statement and the catalog, each with its
--- condition; a column in the place of a period is unknown
+-- condition: it sets no column (26, 31), and gives no list (29)
 abbrev pub stored_query_conditions : List TableDef → written.Stored → List RefusalCondition
 stored_query_conditions catalog s =
-    (UnknownTable, lacks_named catalog s.table)
-    ∷ (UnknownColumn, of_named (is_flawed_stored Unknown s) catalog s.table)
-    ∷ (AmbiguousColumn, of_named (is_flawed_stored Ambiguous s) catalog s.table)
-    ∷ (PeriodColumn, of_named (is_flawed_stored NotValueColumn s) catalog s.table)
-    ∷ (TypeMismatch, of_named (is_flawed_stored OtherKind s) catalog s.table)
-    ∷ (EmptyPeriod, of_named (is_flawed_stored Empty s) catalog s.table)
-    ∷ []
+    fault_conditions (named_faults (λ t. stored_faults t s) catalog s.table)
 
 -- the conditions of a statement that is a stored query; another statement has none
 abbrev pub stored_conditions : List TableDef → Statement → List RefusalCondition

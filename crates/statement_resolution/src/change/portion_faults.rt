@@ -1,10 +1,9 @@
 //! UPDATE and DELETE: the faults of their parts, judged against their table. No test takes memory.
 
 ghost use Rattle.std.specs.Prelude.{◌≡◌};
-ghost use Rattle.std.specs.List.{list_any};
 ghost use Rattle.statement_resolution.specs.change.Insertion as insertion;
-ghost use Rattle.statement_resolution.specs.Flaws.{faults_of, is_flawed_portion, is_flawed_set};
-ghost use Rattle.statement_resolution.specs.Flaws.{is_set_again, sets_twice};
+ghost use Rattle.statement_resolution.specs.TableFaults.{is_set_again, portion_faults, set_faults};
+ghost use Rattle.statement_resolution.specs.TableFaults.{sets_twice, twice_fault};
 
 use crate::change::insert_values::is_longer;
 use crate::faults::Faults;
@@ -36,9 +35,9 @@ fn is_too_long(table: &TableDef, name: &Name, value: &Value) -> bool
 }
 
 /// The faults of an assignment.
-#[tactic(auto, unfolding(crate::specs::Flaws::is_flawed_set, catalog_core::specs::table::Matches::is_matching))]
-fn set_faults(table: &TableDef, set: &Assignment) -> Faults
-    ensures { result ≡ faults_of (λ flaw. is_flawed_set flaw table.now set.now) }
+#[tactic(auto, unfolding(crate::specs::TableFaults::set_faults, catalog_core::specs::table::Matches::is_matching))]
+pub fn set_faults(table: &TableDef, set: &Assignment) -> Faults
+    ensures { result ≡ set_faults table.now set.now }
 {
     let matches = def_matches(table, &set.column);
     Faults {
@@ -51,22 +50,10 @@ fn set_faults(table: &TableDef, set: &Assignment) -> Faults
     }
 }
 
-/// The faults of assignments, each by itself.
-pub fn sets_faults(table: &TableDef, assignments: &[Assignment]) -> Faults
-    ensures { result
-        ≡ faults_of (λ flaw. list_any (λ a. is_flawed_set flaw table.now a) assignments.now) }
-{
-    let mut faults = Faults::none();
-    for set in assignments {
-        faults = faults.or(set_faults(table, set));
-    }
-    faults
-}
-
 /// The faults of a portion.
-#[tactic(auto, unfolding(crate::specs::Flaws::is_flawed_portion))]
+#[tactic(auto, unfolding(crate::specs::TableFaults::portion_faults))]
 pub fn portion_faults(table: &TableDef, portion: &Option<Portion>) -> Faults
-    ensures { result ≡ faults_of (λ flaw. is_flawed_portion flaw table.now portion.now) }
+    ensures { result ≡ portion_faults table.now portion.now }
 {
     match portion {
         Some(portion) => Faults {
@@ -79,7 +66,7 @@ pub fn portion_faults(table: &TableDef, portion: &Option<Portion>) -> Faults
 }
 
 /// Whether a column is set more than once by these.
-#[tactic(auto, unfolding(crate::specs::Flaws::is_set_again))]
+#[tactic(auto, unfolding(crate::specs::TableFaults::is_set_again))]
 fn is_set_again(assignments: &[Assignment], set: &Assignment) -> bool
     ensures { result ≡ is_set_again assignments.now set.now }
 {
@@ -93,8 +80,8 @@ fn is_set_again(assignments: &[Assignment], set: &Assignment) -> bool
 }
 
 /// Whether some column is set more than once.
-#[tactic(auto, unfolding(crate::specs::Flaws::sets_twice))]
-pub fn sets_twice(assignments: &[Assignment]) -> bool
+#[tactic(auto, unfolding(crate::specs::TableFaults::sets_twice))]
+fn sets_twice(assignments: &[Assignment]) -> bool
     ensures { result ≡ sets_twice assignments.now }
 {
     for set in assignments {
@@ -103,4 +90,14 @@ pub fn sets_twice(assignments: &[Assignment]) -> bool
         }
     }
     false
+}
+
+/// The fault of a column that is set more than once.
+pub fn twice_fault(assignments: &[Assignment]) -> Faults
+    ensures { result ≡ twice_fault assignments.now }
+{
+    Faults {
+        twice: sets_twice(assignments),
+        ..Faults::none()
+    }
 }

@@ -14,7 +14,6 @@ ghost use Rattle.statement_resolution.specs.query.Resolving.{conjunct_parts, mem
 ghost use Rattle.statement_resolution.specs.query.Resolving.{reference_parts};
 ghost use Rattle.catalog_core.specs.query.Selection.{item_parts};
 
-use crate::comparison::ColumnNames;
 use crate::faults::Faults;
 use crate::query::scope::Scope;
 use crate::resolver::resolve_condition;
@@ -90,12 +89,14 @@ pub fn convert_items(
 {
     let mut numbered = Vec::with_capacity(alloc, items.len())?;
     for item in items {
-        let found = scope.look_up(&item.column);
-        kinds.push(found.kind)?;
-        *faults = faults.or(found.faults());
-        let position = scope.position(&item.column);
+        let named = scope.look_up(&item.column);
+        kinds.push(named.matched.kind)?;
+        *faults = faults.or(named.matched.faults());
         let name = name_or(&item.new_name, &item.column.name).copy(alloc)?;
-        numbered.push(AnswerColumn { position, name })?;
+        numbered.push(AnswerColumn {
+            position: named.position,
+            name,
+        })?;
     }
     Ok(numbered)
 }

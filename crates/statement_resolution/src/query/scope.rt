@@ -2,17 +2,13 @@
 
 ghost use Rattle.std.specs.Prelude.{◌≡◌, ◌<◌, ◌≤◌, IfSome, length};
 ghost use Rattle.std.specs.List.{position};
-ghost use Rattle.statement_resolution.specs.query.Places.{values_among};
+ghost use Rattle.statement_resolution.specs.query.Faults.{matches_among};
+ghost use Rattle.statement_resolution.specs.query.Matched.{matched};
+ghost use Rattle.statement_resolution.specs.query.Places.{place_among, values_among};
 ghost use Rattle.statement_resolution.specs.query.Scopes.{names_column};
 
-use crate::comparison::{ColumnNames, compare_faults, resolve_comparison};
-use crate::faults::Faults;
 use crate::query::seen_column::{Matched, SeenColumn, look_up};
-use crate::resolver::Resolver;
-use catalog_core::CompareValues;
-use period_core::Memory;
-use sql_statements::{ColumnReference, Compare};
-use std::alloc::Global;
+use sql_statements::ColumnReference;
 
 /// The columns that are seen, and the columns of the tables before them in the select.
 #[derive(Clone, Copy)]
@@ -52,50 +48,29 @@ fn value_place(columns: &[SeenColumn<'_>], reference: &ColumnReference) -> Optio
     None
 }
 
-impl<'a> ColumnNames for Scope<'a> {
-    ghost use Rattle.statement_resolution.specs.query.Faults.{matches_among};
-    ghost use Rattle.statement_resolution.specs.query.Places.{place_among};
-
-    ghost matches = { λ s r. matches_among s.seen.now r };
-
-    ghost place = { λ s r. place_among s.before.now s.seen.now r };
-
-    fn look_up(&self, column: &ColumnReference) -> Matched {
-        look_up(self.seen, column)
-    }
-
-    fn position(&self, column: &ColumnReference) -> usize {
-        match value_place(self.seen, column) {
-            Some(place) => value_count(self.before) + place,
-            None => 0,
-        }
-    }
+/// The columns that a name matches, and its position: 0 for a name that has none, which no accepted
+/// statement has.
+#[derive(Clone, Copy)]
+pub struct Named {
+    pub matched: Matched,
+    pub position: usize,
 }
 
-impl<'a> Resolver<Compare> for Scope<'a> {
-    ghost use Rattle.std.specs.Prelude.{Option, Some};
-    ghost use Rattle.statement_resolution.specs.Placing.{place_compare};
-    ghost use Rattle.statement_resolution.specs.query.Faults.{compare_faults, matches_among};
-    ghost use Rattle.statement_resolution.specs.query.Places.{place_among};
-    ghost use Rattle.catalog_core.specs.declared.condition.CompareValues.{CompareValues as Resolved};
-
-    type Resolved = CompareValues;
-
-    ghost Parts = { Option Resolved };
-
-    ghost faults = { λ s c. compare_faults (matches_among s.seen.now) c };
-
-    ghost placed = { λ s c. Some (place_compare (place_among s.before.now s.seen.now) c) };
-
-    ghost parts = { λ numbered. Some numbered };
-
-    fn resolve_test(
-        &self,
-        alloc: Global,
-        test: &Compare,
-        found: &mut Faults,
-    ) -> Result<CompareValues, Memory> {
-        *found = found.or(compare_faults(self, test));
-        resolve_comparison(alloc, self, test)
+impl<'a> Scope<'a> {
+    /// Looks up a name.
+    pub fn look_up(&self, column: &ColumnReference) -> Named
+        ensures matched { result.matched
+            ≡ matched (matches_among self.now.seen.now column.now) }
+        ensures position { result.position
+            ≡ place_among self.now.before.now self.now.seen.now column.now }
+    {
+        let position = match value_place(self.seen, column) {
+            Some(place) => value_count(self.before) + place,
+            None => 0,
+        };
+        Named {
+            matched: look_up(self.seen, column),
+            position,
+        }
     }
 }

@@ -1,10 +1,11 @@
 //! The columns that are seen at a place of a select, and what a name matches among them.
 
-ghost use Rattle.std.specs.Prelude.{◌≡◌, ◌++◌, [], IfOk};
+ghost use Rattle.std.specs.Prelude.{◌≡◌, ◌++◌, [], IfOk, Some};
 ghost use Rattle.statement_resolution.specs.query.Faults.{matches_among};
 ghost use Rattle.statement_resolution.specs.query.Matched.{found_faults, matched, matched_more};
 ghost use Rattle.statement_resolution.specs.query.Scopes as scope;
 ghost use Rattle.statement_resolution.specs.query.Scopes.{declared_columns, names_column};
+ghost use Rattle.statement_resolution.specs.query.Scopes.{own_columns};
 ghost use Rattle.catalog_core.specs.table.Kinds as kinds;
 ghost use Rattle.catalog_core.specs.table.Naming as naming;
 ghost use Rattle.catalog_core.specs.table.TableWords.{table_of_name};
@@ -16,6 +17,7 @@ use catalog_core::{
 };
 use period_core::Memory;
 use sql_statements::{ColumnReference, Name, TableReference};
+use std::alloc::Global;
 use std::marker::Model;
 
 /// A declared column of a table that is seen, with the name by which the table is known and the
@@ -126,6 +128,27 @@ pub fn look_up(columns: &[SeenColumn<'_>], reference: &ColumnReference) -> Match
     found
 }
 
+/// Adds the declared columns of a table that is known by a name.
+fn push_declared<'a>(
+    columns: &mut Vec<SeenColumn<'a>>,
+    known_as: &'a Name,
+    table: &'a TableDef,
+) -> Result<(), Memory>
+    ensures { IfOk result (λ _. columns.new.items
+        ≡ columns.old.items ++ declared_columns known_as.now (Some table.now)) }
+{
+    let declared = table.columns.as_slice();
+    for place in 0..declared.len() {
+        columns.push(SeenColumn {
+            known_as,
+            table,
+            place,
+            column: &declared[place],
+        })?;
+    }
+    Ok(())
+}
+
 /// Adds the columns of the table that a reference names: none, if it is missing.
 pub fn push_columns<'a>(
     columns: &mut Vec<SeenColumn<'a>>,
@@ -139,15 +162,14 @@ pub fn push_columns<'a>(
     let Some((_, table)) = catalog.table_named(&reference.table) else {
         return Ok(());
     };
-    let known_as = known_name(reference);
-    let declared = table.columns.as_slice();
-    for place in 0..declared.len() {
-        columns.push(SeenColumn {
-            known_as,
-            table,
-            place,
-            column: &declared[place],
-        })?;
-    }
-    Ok(())
+    push_declared(columns, known_name(reference), table)
+}
+
+/// The columns of a table that is known by its own name.
+pub fn own_columns(alloc: Global, table: &TableDef) -> Result<Vec<SeenColumn<'_>>, Memory>
+    ensures { IfOk result (λ columns. columns.items ≡ own_columns table.now) }
+{
+    let mut columns = Vec::new(alloc);
+    push_declared(&mut columns, &table.name, table)?;
+    Ok(columns)
 }

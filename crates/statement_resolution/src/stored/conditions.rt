@@ -2,11 +2,12 @@
 //! names.
 
 ghost use Rattle.std.specs.Prelude.{◌≡◌};
-ghost use Rattle.statement_resolution.specs.Flaws.{faults_of, is_flawed_period};
+ghost use Rattle.statement_resolution.specs.TableFaults.{period_faults};
 ghost use Rattle.statement_resolution.specs.stored.StoredPlacing.{placed_days};
 ghost use Rattle.statement_resolution.specs.stored.StoredQueries.{side_parts};
 
 use crate::faults::Faults;
+use crate::query::scope::Scope;
 use crate::query::seen::is_qualified;
 use crate::resolver::Resolver;
 use catalog_core::{PeriodSide, TableDef, VersionTest};
@@ -28,9 +29,9 @@ fn resolve_days(side: &PeriodOperand) -> PeriodSide
 }
 
 /// The faults of a side of a period predicate.
-#[tactic(auto, unfolding(crate::specs::Flaws::is_flawed_period))]
+#[tactic(auto, unfolding(crate::specs::TableFaults::period_faults))]
 fn period_faults(table: &TableDef, period: &PeriodOperand) -> Faults
-    ensures { result ≡ faults_of (λ flaw. is_flawed_period flaw table.now period.now) }
+    ensures { result ≡ period_faults table.now period.now }
 {
     match period {
         PeriodOperand::Named(named) => Faults {
@@ -45,9 +46,17 @@ fn period_faults(table: &TableDef, period: &PeriodOperand) -> Faults
     }
 }
 
-impl Resolver<StoredTest> for TableDef {
+/// A table and its columns, which tests of its versions see.
+#[derive(Clone, Copy)]
+pub struct StoredScope<'a> {
+    pub table: &'a TableDef,
+    pub columns: Scope<'a>,
+}
+
+impl<'a> Resolver<StoredTest> for StoredScope<'a> {
     ghost use Rattle.std.specs.Prelude.{Option, Some};
-    ghost use Rattle.statement_resolution.specs.Flaws.{faults_of, is_flawed_test};
+    ghost use Rattle.statement_resolution.specs.TableFaults.{test_faults};
+    ghost use Rattle.statement_resolution.specs.query.Places.{place_among};
     ghost use Rattle.statement_resolution.specs.stored.StoredPlacing.{placed_test};
     ghost use Rattle.statement_resolution.specs.stored.StoredQueries.{PlainTest, test_parts};
 
@@ -55,13 +64,14 @@ impl Resolver<StoredTest> for TableDef {
 
     ghost Parts = { Option PlainTest };
 
-    ghost faults = { λ t x. faults_of (λ flaw. is_flawed_test flaw t x) };
+    ghost faults = { λ s x. test_faults s.table.now s.columns.seen.now x };
 
-    ghost placed = { λ t x. Some (placed_test t x) };
+    ghost placed = { λ s x.
+        Some (placed_test (place_among s.columns.before.now s.columns.seen.now) x) };
 
     ghost parts = { λ numbered. Some (test_parts numbered) };
 
-    #[tactic(auto, unfolding(crate::specs::Flaws::is_flawed_test))]
+    #[tactic(auto, unfolding(crate::specs::TableFaults::test_faults))]
     fn resolve_test(
         &self,
         alloc: Global,
@@ -70,17 +80,18 @@ impl Resolver<StoredTest> for TableDef {
     ) -> Result<VersionTest, Memory> {
         match test {
             StoredTest::Values(compare) => {
-                let compare = self.resolve_test(alloc, compare, found)?;
+                let compare = self.columns.resolve_test(alloc, compare, found)?;
                 Ok(VersionTest::Values(compare))
             }
             StoredTest::Periods(left, predicate, right) => {
-                *found = found.or(period_faults(self, left).or(period_faults(self, right)));
+                let table = self.table;
+                *found = found.or(period_faults(table, left).or(period_faults(table, right)));
                 let left = resolve_days(left);
                 let right = resolve_days(right);
                 Ok(VersionTest::Periods(left, *predicate, right))
             }
             StoredTest::ContainsDay(side, day) => {
-                *found = found.or(period_faults(self, side));
+                *found = found.or(period_faults(self.table, side));
                 let side = resolve_days(side);
                 Ok(VersionTest::ContainsDay(side, *day))
             }

@@ -10,7 +10,10 @@ ghost use Rattle.statement_resolution.specs.stored.StoredQueries.{stored_conditi
 ghost use Rattle.statement_resolution.specs.stored.StoredQueries.{stored_query_conditions};
 
 use crate::faults::Faults;
+use crate::query::scope::Scope;
+use crate::query::seen_column::own_columns;
 use crate::resolver::resolve_where;
+use crate::stored::conditions::StoredScope;
 use crate::system_window::window_of;
 use catalog_core::{Catalog, Stored};
 use period_core::Refusal;
@@ -34,8 +37,16 @@ pub fn resolve_stored_query(
     let Some((number, table)) = catalog.table_named(&query.table) else {
         return Err(Refusal::UnknownTable);
     };
+    let columns = own_columns(alloc, table)?;
+    let scope = StoredScope {
+        table,
+        columns: Scope {
+            before: &[],
+            seen: columns.as_slice(),
+        },
+    };
     let mut found = Faults::none();
-    let condition = resolve_where(alloc, table, &query.condition, &mut found)?;
+    let condition = resolve_where(alloc, &scope, &query.condition, &mut found)?;
     if let Some(fault) = found.first() {
         return Err(fault);
     }

@@ -1,31 +1,31 @@
--- Conditions with their tests replaced, by their parts; and what has a position in a sound statement.
-use Rattle.std.proofs.Common.{◌≡◌, ◌∙◌, ◌<◌, ◌≤◌, ◌+◌, ◌++◌, Bool, false, ℕ, List, [], ◌∷◌, Option, None, Some, ap, get_or, length, map, refl, sym, take, take_all}
-use Rattle.std.specs.Prelude.{◌||◌}
+-- Conditions with their tests replaced, by their parts; and what has a position if it has no fault.
+use Rattle.std.proofs.Common.{◌≡◌, ◌∙◌, ◌<◌, ◌≤◌, ◌+◌, ◌++◌, ℕ, List, [], ◌∷◌, Option, None, Some, ap, get_or, length, map, refl, subst, sym, take, take_all}
 use Rattle.std.specs.Global.{Box, Vec}
-use Rattle.std.specs.List.{list_any}
-use Rattle.std.specs.Option.{option_and_then, option_map}
-use Rattle.std.proofs.lemmas.Bool.{or_parts}
+use Rattle.std.specs.Option.{option_map}
 use Rattle.std.proofs.lemmas.List.{map_push, take_more}
-use Rattle.std.proofs.lemmas.List.Folds.{list_any-append}
 use Rattle.sql_statements.specs.declared.tree.Tree as code
 use Rattle.sql_statements.specs.declared.statement.Assignment as written
 use Rattle.sql_statements.specs.declared.statement.ColumnReference.{ColumnReference}
 use Rattle.sql_statements.specs.declared.statement.Compare.{Compare}
-use Rattle.sql_statements.specs.declared.statement.Comparison.{Comparison}
 use Rattle.sql_statements.specs.declared.statement.Operand.{Operand}
 use Rattle.sql_statements.specs.declared.statement.Operand.TheVariants as operand
 use Rattle.sql_statements.specs.Plain.{plain_condition}
-use Rattle.sql_statements.specs.Trees.{Condition, Conditions, all, any, conditions_of, more, negated, none, test, Update, Delete}
+use Rattle.sql_statements.specs.Trees.{Condition, Conditions, all, any, conditions_of, more, negated, none, test}
 use Rattle.catalog_core.proofs.lemmas.conditions.Truth.{and_view, not_view, or_view}
-use Rattle.statement_resolution.proofs.lemmas.query.SeenColumns.{placed_in}
+use Rattle.catalog_core.proofs.lemmas.table.Positions.{positioned}
 use Rattle.catalog_core.specs.Conditions.{tests_among, tests_of}
-use Rattle.statement_resolution.specs.Flaws.{has_test, is_flawed_column, is_flawed_compare, is_flawed_portion, is_flawed_set, is_flawed_side, is_of_two_kinds, some_test, Flaw, NotValueColumn, Unknown}
-use Rattle.statement_resolution.specs.Placing.{or_zero, place_compare, placed_compare, placed_side}
-use Rattle.statement_resolution.specs.change.PortionChanges.{is_flawed_delete, is_flawed_update}
-use Rattle.statement_resolution.specs.Positions.{ReplacesWhere, ResolvesWhere, map_condition, map_conditions, resolved_comparison, resolved_operand}
 use Rattle.catalog_core.specs.query.Selection.{value_position}
-use Rattle.catalog_core.specs.declared.condition.Comparand.{Comparand}
-use Rattle.catalog_core.specs.declared.condition.Comparand.TheVariants.{Position}
+use Rattle.statement_resolution.proofs.lemmas.judged.FaultSums.{both_clear, clear_parts}
+use Rattle.statement_resolution.proofs.lemmas.query.SeenColumns.{own_place, own_there}
+use Rattle.statement_resolution.specs.Faults.{condition_faults, either, faults_among, no_faults, where_faults}
+use Rattle.statement_resolution.specs.Placing.{or_zero, place_compare, place_side, placed_assignment}
+use Rattle.statement_resolution.specs.Positions.{ReplacesWhere, ResolvesWhere, compare_by, map_condition, map_conditions, resolved_assignment, resolved_comparison, side_by}
+use Rattle.statement_resolution.specs.TableFaults.{own_compare_faults, set_faults}
+use Rattle.statement_resolution.specs.query.Faults.{compare_faults, match_faults, matches_among, side_faults}
+use Rattle.statement_resolution.specs.query.Places.{place_among}
+use Rattle.statement_resolution.specs.query.Scopes.{SeenColumn, own_columns}
+use Rattle.statement_resolution.specs.declared.faults.Faults.{Faults}
+use Rattle.catalog_core.specs.declared.change.Assignment.{Assignment}
 use Rattle.catalog_core.specs.declared.condition.CompareValues.{CompareValues}
 use Rattle.catalog_core.specs.declared.table.TableDef.{TableDef}
 
@@ -70,77 +70,81 @@ module _ {T S R : Type 0} (f : T → R) (g : S → R) where
       ∙ ap (λ (cs : List (Condition R)). all (more (mapped g other_first.value) (conditions_of cs))) k
       ∙ sym (and_mapped g other_first more_others)
 
--- ---- sound comparisons
-
-pub none_of : {T : Type 0} (p : T → Bool) (xs ys : List T) → list_any p (xs ++ ys) ≡ false → (list_any p xs ≡ false) × (list_any p ys ≡ false)
-none_of p xs ys clean = or_parts (list_any p xs) (list_any p ys) (sym (list_any-append p xs ys) ∙ clean)
-
-pub sides_of : (flaw : Flaw) (t : TableDef) (c : Compare) → is_flawed_compare flaw t c ≡ false
-    → (is_flawed_side flaw t c.left ≡ false) × (is_flawed_side flaw t c.right ≡ false)
-unfolding is_flawed_compare
-sides_of flaw t c clean =
-    or_parts (is_flawed_side flaw t c.left) (is_flawed_side flaw t c.right)
-    (or_parts (is_flawed_side flaw t c.left || is_flawed_side flaw t c.right) (is_of_two_kinds flaw t c) clean).0
-
-pub column_positioned : (t : TableDef) (r : ColumnReference) → is_flawed_column Unknown t r ≡ false → is_flawed_column NotValueColumn t r ≡ false → value_position t r.name ≡ None → ⊥
-unfolding is_flawed_column
-column_positioned t r there value nowhere =
-    placed_in t.name t r there value nowhere
+-- ---- comparisons without a fault
 
 -- each test by the places of its columns
 abbrev pub placed_by : (ColumnReference → ℕ) → Compare → Option CompareValues
 placed_by place c = Some (place_compare place c)
 
-abbrev pub placed : TableDef → Compare → Option CompareValues
-placed t c = Some (placed_compare t c)
+module _
+    (matches : ColumnReference → List SeenColumn)
+    (position : ColumnReference → Option ℕ)
+    (place : ColumnReference → ℕ)
+    (there : (r : ColumnReference) → match_faults (matches r) ≡ no_faults → position r ≡ Some (place r))
+  where
+    side_placed : (side : Operand) → side_faults matches side ≡ no_faults → side_by position side ≡ Some (place_side place side)
+    side_placed (operand.Column r) clean = rw (there r clean) refl
+    side_placed (operand.Literal value) clean = refl
 
-side_placed : (t : TableDef) (side : Operand) → is_flawed_side Unknown t side ≡ false → is_flawed_side NotValueColumn t side ≡ false → resolved_operand t side ≡ Some (placed_side t side)
-side_placed t (operand.Column r) there value =
-    (elim (value_position t r.name) as (λ o. value_position t r.name ≡ o → option_map (λ n. Position n) o ≡ Some (Position (or_zero o))) [
-      | None ↦ (λ e. absurd (column_positioned t r there value e))
+    pub compare_placed : (c : Compare) → compare_faults matches c ≡ no_faults → compare_by position c ≡ placed_by place c
+    unfolding compare_faults
+    compare_placed c clean =
+        let left : Faults = side_faults matches c.left in
+        let right : Faults = side_faults matches c.right in
+        let sides = both_clear left right (both_clear (either left right) _ clean).0 in
+        rw (side_placed c.left sides.0, side_placed c.right sides.1) refl
+
+-- ---- conditions without a fault
+
+-- two ways to replace tests that agree on tests without a fault
+module _ {T R : Type 0} (faults : T → Faults) (f g : T → R) (same : (x : T) → faults x ≡ no_faults → f x ≡ g x) where
+  mutual
+    pub agree : (c : Condition T) → condition_faults faults c ≡ no_faults → map_condition f c ≡ map_condition g c
+    agree (any parts) clean = ap (λ (cs : Conditions R). any cs) (agree_each parts clean)
+    agree (all parts) clean = ap (λ (cs : Conditions R). all cs) (agree_each parts clean)
+    agree (negated part) clean = ap (λ (c : Condition R). negated c) (agree part clean)
+    agree (test leaf) clean = ap (λ (x : R). test x) (same leaf (both_clear (faults leaf) no_faults clean).0)
+
+    agree_each : (parts : Conditions T) → faults_among faults (tests_among parts) ≡ no_faults → map_conditions f parts ≡ map_conditions g parts
+    agree_each none clean = refl
+    agree_each (more part parts) clean =
+        let both = clear_parts faults (tests_of part) (tests_among parts) clean in
+        ap (λ (c : Condition R). more c (map_conditions f parts)) (agree part both.0) ∙ ap (λ (cs : Conditions R). more (map_condition g part) cs) (agree_each parts both.1)
+
+  pub where_agrees : {S : Type 0} (h : S → R) (condition : Option (Condition T)) (numbered : Option (code.Tree S)) → where_faults faults condition ≡ no_faults
+      → ReplacesWhere g h condition numbered → ReplacesWhere f h condition numbered
+  where_agrees h None None clean same = tt
+  where_agrees h None (Some n) clean same = same
+  where_agrees h (Some c) None clean same = same
+  where_agrees h (Some c) (Some n) clean same = agree c clean ∙ same
+
+-- a WHERE of an UPDATE or a DELETE by its positions
+pub where_placed : (t : TableDef) (columns : List SeenColumn) (condition : Option (Condition Compare)) (numbered : Option (code.Tree CompareValues)) → columns ≡ own_columns t
+    → where_faults (own_compare_faults t) condition ≡ no_faults → ReplacesWhere (placed_by (place_among [] columns)) (λ leaf. Some leaf) condition numbered
+    → ResolvesWhere (resolved_comparison t) condition numbered
+where_placed t columns condition numbered seen clean same =
+    where_agrees (own_compare_faults t) (resolved_comparison t) (placed_by (own_place t))
+    (compare_placed (matches_among (own_columns t)) (λ (r : ColumnReference). value_position t r.name) (own_place t) (own_there t)) (λ leaf. Some leaf) condition numbered clean
+    (subst (λ (cs : List SeenColumn). ReplacesWhere (placed_by (place_among [] cs)) (λ leaf. Some leaf) condition numbered) seen same)
+
+-- ---- assignments without a fault
+
+abbrev set_at : written.Assignment → ℕ → Assignment
+set_at a n = record { position = n; value = a.value }
+
+set_there : (t : TableDef) (a : written.Assignment) → set_faults t a ≡ no_faults → resolved_assignment t a ≡ Some (placed_assignment t a)
+unfolding set_faults
+set_there t a clean =
+    (elim (value_position t a.column) as (λ o. value_position t a.column ≡ o → option_map (set_at a) o ≡ Some (set_at a (or_zero o))) [
+      | None ↦ (λ e. absurd (positioned t a.column (ap (λ (f : Faults). f.unknown) clean) (ap (λ (f : Faults). f.period) clean) e))
       | Some n ↦ (λ e. refl)
     ]) refl
-side_placed t (operand.Literal v) there value = refl
 
-both : (left right : Option Comparand) (l r : Comparand) (comparison : Comparison) → left ≡ Some l → right ≡ Some r
-    → option_and_then (λ (x : Comparand). option_map (λ (y : Comparand). let c : CompareValues = record { left = x; comparison = comparison; right = y } in c) right) left ≡ Some (record { left = l; comparison = comparison; right = r })
-both left right l r comparison e f = rw (e, f) refl
-
-pub compare_placed : (t : TableDef) (c : Compare) → is_flawed_compare Unknown t c ≡ false → is_flawed_compare NotValueColumn t c ≡ false → resolved_comparison t c ≡ placed t c
-compare_placed t c there value =
-    let unknown = sides_of Unknown t c there in
-    let other = sides_of NotValueColumn t c value in
-    both (resolved_operand t c.left) (resolved_operand t c.right) (placed_side t c.left) (placed_side t c.right) c.comparison
-    (side_placed t c.left unknown.0 other.0) (side_placed t c.right unknown.1 other.1)
-
--- two ways to replace tests that agree on tests without three flaws
-module _ {T R : Type 0} (p q r : T → Bool) (f g : T → R) (same : (x : T) → p x ≡ false → q x ≡ false → r x ≡ false → f x ≡ g x) where
-  mutual
-    pub agree : (c : Condition T) → some_test p c ≡ false → some_test q c ≡ false → some_test r c ≡ false → map_condition f c ≡ map_condition g c
-    agree (any parts) h k l = ap (λ (cs : Conditions R). any cs) (agree_each parts h k l)
-    agree (all parts) h k l = ap (λ (cs : Conditions R). all cs) (agree_each parts h k l)
-    agree (negated part) h k l = ap (λ (c : Condition R). negated c) (agree part h k l)
-    agree (test leaf) h k l = ap (λ (x : R). test x) (same leaf (or_parts (p leaf) false h).0 (or_parts (q leaf) false k).0 (or_parts (r leaf) false l).0)
-
-    agree_each : (parts : Conditions T) → list_any p (tests_among parts) ≡ false → list_any q (tests_among parts) ≡ false → list_any r (tests_among parts) ≡ false → map_conditions f parts ≡ map_conditions g parts
-    agree_each none h k l = refl
-    agree_each (more part parts) h k l =
-        let first = none_of p (tests_of part) (tests_among parts) h in
-        let second = none_of q (tests_of part) (tests_among parts) k in
-        let third = none_of r (tests_of part) (tests_among parts) l in
-        ap (λ (c : Condition R). more c (map_conditions f parts)) (agree part first.0 second.0 third.0) ∙ ap (λ (cs : Conditions R). more (map_condition g part) cs) (agree_each parts first.1 second.1 third.1)
-
--- a sound condition by its positions
-condition_placed : (t : TableDef) (c : Condition Compare) → some_test (is_flawed_compare Unknown t) c ≡ false → some_test (is_flawed_compare NotValueColumn t) c ≡ false → map_condition (resolved_comparison t) c ≡ map_condition (placed t) c
-condition_placed t c there value = agree (is_flawed_compare Unknown t) (is_flawed_compare NotValueColumn t) (is_flawed_compare NotValueColumn t) (resolved_comparison t) (placed t) (λ x h k l. compare_placed t x h k) c there value value
-
--- a sound WHERE by its positions
-pub where_placed : (t : TableDef) (condition : Option (Condition Compare)) (numbered : Option (code.Tree CompareValues)) → has_test (is_flawed_compare Unknown t) condition ≡ false → has_test (is_flawed_compare NotValueColumn t) condition ≡ false
-    → ReplacesWhere (placed t) (λ leaf. Some leaf) condition numbered → ResolvesWhere (resolved_comparison t) condition numbered
-where_placed t None None there value same = tt
-where_placed t None (Some n) there value same = same
-where_placed t (Some c) None there value same = same
-where_placed t (Some c) (Some n) there value same = condition_placed t c there value ∙ same
+pub sets_placed : (t : TableDef) (sets : List written.Assignment) → faults_among (set_faults t) sets ≡ no_faults → map (resolved_assignment t) sets ≡ map (λ a. Some a) (map (placed_assignment t) sets)
+sets_placed t [] clean = refl
+sets_placed t (a ∷ sets) clean =
+    let parts = both_clear (set_faults t a) (faults_among (set_faults t) sets) clean in
+    rw (set_there t a parts.0, sets_placed t sets parts.1) refl
 
 -- ---- loops over parts
 
@@ -158,21 +162,3 @@ map_more {A} {B} {C} f g xs i x ys zs y here item before same after =
 pub map_end : {A B C : Type 0} (f : A → C) (g : B → C) (xs whole : List A) (i : ℕ) (ys : List B)
     → length xs ≤ i → xs ≡ whole → map f (take i xs) ≡ map g ys → map f whole ≡ map g ys
 map_end f g xs whole i ys done same before = ap (map f) (sym same) ∙ ap (map f) (sym (take_all i xs done)) ∙ before
-
--- ---- statements
-
-pub flawless_update : (flaw : Flaw) (u : Update) (t : TableDef) → is_flawed_update flaw u t ≡ false
-    → (is_flawed_portion flaw t u.portion ≡ false)
-    × (list_any (λ (a : written.Assignment). is_flawed_set flaw t a) u.assignments ≡ false)
-    × (has_test (is_flawed_compare flaw t) u.condition ≡ false)
-unfolding is_flawed_update
-flawless_update flaw u t clean =
-    let sets : Bool = list_any (λ (a : written.Assignment). is_flawed_set flaw t a) u.assignments in
-    let parts = or_parts (is_flawed_portion flaw t u.portion) (sets || has_test (is_flawed_compare flaw t) u.condition) clean in
-    let others = or_parts sets (has_test (is_flawed_compare flaw t) u.condition) parts.1 in
-    (parts.0, others.0, others.1)
-
-pub flawless_delete : (flaw : Flaw) (d : Delete) (t : TableDef) → is_flawed_delete flaw d t ≡ false
-    → (is_flawed_portion flaw t d.portion ≡ false) × (has_test (is_flawed_compare flaw t) d.condition ≡ false)
-unfolding is_flawed_delete
-flawless_delete flaw d t clean = or_parts (is_flawed_portion flaw t d.portion) (has_test (is_flawed_compare flaw t) d.condition) clean

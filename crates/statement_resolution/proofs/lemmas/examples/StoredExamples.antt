@@ -20,11 +20,11 @@ use Rattle.sql_statements.specs.declared.statement.StoredTest.{StoredTest}
 use Rattle.sql_statements.specs.declared.statement.StoredTest.TheVariants as asked
 use Rattle.catalog_core.proofs.lemmas.examples.Tables.{dep}
 use Rattle.catalog_core.specs.Conditions.{is_satisfied}
-use Rattle.statement_resolution.specs.Flaws.{is_flawed_column, is_flawed_compare, is_flawed_period, is_flawed_test}
+use Rattle.statement_resolution.specs.TableFaults.{period_faults, test_faults}
+use Rattle.statement_resolution.specs.query.Faults.{compare_faults, match_faults}
 use Rattle.catalog_core.specs.RefusalConditions.{first_holding}
-use Rattle.statement_resolution.specs.change.PortionChanges.{lacks_named}
 use Rattle.catalog_core.specs.stored.StoredAnswers.{is_shown, passes_test}
-use Rattle.statement_resolution.specs.stored.StoredQueries.{is_flawed_stored, stored_query_conditions}
+use Rattle.statement_resolution.specs.stored.StoredQueries.{stored_query_conditions}
 use Rattle.catalog_core.specs.table.Kinds.{differ, kind_of_column, same_kind}
 use Rattle.catalog_core.specs.table.Matches.{is_matching}
 use Rattle.catalog_core.specs.table.Naming.{Name, find_among, matches_among}
@@ -57,7 +57,7 @@ record Refusals : Type 0 where
   column_as_period : refusal DEP (Some (overlaps (period (codes "S")) (Dates (pos 1) (pos 2)))) ≡ Some UnknownColumn
 
 refusals : Refusals
-unfolding is_flawed_stored is_flawed_test is_flawed_compare is_flawed_column is_flawed_period lacks_named is_matching find_among matches_among differ same_kind kind_of_column def_kind is_value_column number_of table_of_name
+unfolding test_faults compare_faults match_faults period_faults is_matching find_among matches_among differ same_kind kind_of_column def_kind is_value_column number_of table_of_name
 refusals = record {
   accepted = refl;
   column_as_period = refl;

@@ -13,13 +13,14 @@ use Rattle.sql_statements.specs.declared.statement.Comparison.TheVariants.{Equal
 use Rattle.sql_statements.specs.declared.statement.Operand.TheVariants.{Column, Literal}
 use Rattle.sql_statements.specs.declared.statement.Portion.{Portion}
 use Rattle.catalog_core.proofs.lemmas.examples.Tables.{dep}
-use Rattle.statement_resolution.specs.Flaws.{is_flawed_column, is_flawed_compare, is_flawed_portion, is_flawed_set, is_set_again, sets_twice}
+use Rattle.statement_resolution.specs.TableFaults.{is_set_again, portion_faults, set_faults, sets_twice}
+use Rattle.statement_resolution.specs.query.Faults.{compare_faults, match_faults}
 use Rattle.statement_resolution.specs.change.Insertion.{is_longer, is_of_other_kind, is_too_long}
 use Rattle.catalog_core.specs.RefusalConditions.{first_holding}
 use Rattle.catalog_core.specs.table.Kinds.{kind_of_column, same_kind, differ}
 use Rattle.catalog_core.specs.table.Matches.{is_matching}
 use Rattle.catalog_core.specs.table.Naming.{Name, find_among, matches_among}
-use Rattle.statement_resolution.specs.change.PortionChanges.{is_flawed_update, lacks_named, update_conditions}
+use Rattle.statement_resolution.specs.change.PortionChanges.{update_conditions, update_faults}
 use Rattle.catalog_core.specs.query.Selection.{names_non_value_column}
 use Rattle.catalog_core.specs.table.TableWords.{def_kind, is_value_column, number_of, table_of_name}
 
@@ -50,7 +51,7 @@ record Updates : Type 0 where
   other_qualifier : refusal (of_dep (named ∷ []) (Some (negated (equal (Some (codes "D")) (codes "DNO") (Int (pos 5)))))) ≡ Some UnknownColumn
 
 updates : Updates
-unfolding is_flawed_column is_flawed_compare is_flawed_portion is_flawed_set is_set_again sets_twice is_longer is_of_other_kind is_too_long kind_of_column same_kind differ is_matching is_flawed_update lacks_named names_non_value_column def_kind find_among matches_among is_value_column number_of table_of_name chars
+unfolding match_faults compare_faults portion_faults set_faults is_set_again sets_twice is_longer is_of_other_kind is_too_long kind_of_column same_kind differ is_matching update_faults names_non_value_column def_kind find_among matches_among is_value_column number_of table_of_name chars
 updates = record {
   accepted = refl;
   other_qualifier = refl;

@@ -1,8 +1,9 @@
--- Faults, collected over a list: in a loop, of two lists, of a list's images.
-use Rattle.std.proofs.Common.{◌≡◌, ◌<◌, ◌≤◌, ◌+◌, ◌++◌, ◌∷◌, ◌||◌, ◌∙◌, ℕ, Bool, true, false, List, [], get_or, take, take_all, length, map, refl, sym, ap}
-use Rattle.std.specs.List.{list_any}
+-- Faults, collected over a list: in a loop, of two lists, of a list's images; and none of them.
+use Rattle.std.proofs.Common.{◌≡◌, ◌<◌, ◌≤◌, ◌+◌, ◌++◌, ◌∷◌, ◌||◌, ◌∙◌, ℕ, zero, suc, Bool, true, false, List, [], arith, get_or, take, take_all, length, map, refl, sym, ap}
+use Rattle.std.proofs.lemmas.Bool.{or_parts}
 use Rattle.std.proofs.lemmas.List.{take_more}
-use Rattle.statement_resolution.specs.Faults.{either, faults_among, no_faults}
+use Rattle.catalog_core.proofs.lemmas.judged.Sound.{AreFalse}
+use Rattle.statement_resolution.specs.Faults.{either, fault_conditions, faults_among, no_faults}
 use Rattle.statement_resolution.specs.declared.faults.Faults.{Faults}
 
 pub or_assoc : (a b c : Bool) → ((a || b) || c) ≡ (a || (b || c))
@@ -103,18 +104,6 @@ among_after f first xs i x before found here item same this =
 pub among_end : {X : Type 0} (f : X → Faults) (xs whole : List X) (i : ℕ) → length xs ≤ i → xs ≡ whole → faults_among f (take i xs) ≡ faults_among f whole
 among_end f xs whole i done same = ap (faults_among f) (take_all i xs done ∙ same)
 
--- ---- one of the faults
-
--- a fault that is reported of each element, as a part of the faults
-pub record IsPart (part : Faults → Bool) : Type 0 where
-  pub none : part no_faults ≡ false
-  pub both : (f g : Faults) → part (either f g) ≡ (part f || part g)
-
-pub part_among : {X : Type 0} (part : Faults → Bool) (f : X → Faults) → IsPart part → (xs : List X) → part (faults_among f xs) ≡ list_any (λ x. part (f x)) xs
-part_among part f told [] = told.none
-part_among part f told (x ∷ xs) =
-    told.both (f x) (faults_among f xs) ∙ ap (λ b. part (f x) || b) (part_among part f told xs)
-
 -- the faults of one more image, after earlier faults
 pub among_front : {X Y : Type 0} (f : Y → Faults) (g : X → Y) (first : Faults) (xs : List X) (i : ℕ) (x : X) (before found : Faults)
     → i < length xs → x ≡ get_or xs i x → before ≡ either first (faults_among f (map g (take i xs))) → found ≡ f (g x)
@@ -122,3 +111,43 @@ pub among_front : {X Y : Type 0} (f : Y → Faults) (g : X → Y) (first : Fault
 among_front {X} f g first xs i x before found here item same this =
     among_after (λ (y : X). f (g y)) first xs i x before found here item (same ∙ ap (either first) (among_map f g (take i xs))) this
     ∙ ap (either first) (sym (among_map f g (take (i + 1) xs)))
+
+-- ---- no fault
+
+clear : (a b c d e g h i j : Bool) → a ≡ false → b ≡ false → c ≡ false → d ≡ false → e ≡ false → g ≡ false → h ≡ false → i ≡ false → j ≡ false
+    → record { table = a; unknown = b; ambiguous = c; twice = d; period = e; count = g; kinds = h; long = i; empty = j } ≡ no_faults
+clear a b c d e g h i j table unknown ambiguous twice period count kinds long empty =
+    rw (table, unknown, ambiguous, twice, period, count, kinds, long, empty) refl
+
+-- if no condition holds, nothing was found
+pub clear_of : (f : Faults) → AreFalse (fault_conditions f) → f ≡ no_faults
+clear_of f t =
+    clear f.table f.unknown f.ambiguous f.twice f.period f.count f.kinds f.long f.empty
+    t.0 t.1.0 t.1.1.0 t.1.1.1.0 t.1.1.1.1.0 t.1.1.1.1.1.0 t.1.1.1.1.1.1.0 t.1.1.1.1.1.1.1.0 t.1.1.1.1.1.1.1.1.0
+
+-- if nothing was found in two parts, nothing was in either
+pub both_clear : (f g : Faults) → either f g ≡ no_faults → (f ≡ no_faults) × (g ≡ no_faults)
+both_clear f g none =
+    let table = or_parts f.table g.table (ap (λ h. h.table) none) in
+    let unknown = or_parts f.unknown g.unknown (ap (λ h. h.unknown) none) in
+    let ambiguous = or_parts f.ambiguous g.ambiguous (ap (λ h. h.ambiguous) none) in
+    let twice = or_parts f.twice g.twice (ap (λ h. h.twice) none) in
+    let period = or_parts f.period g.period (ap (λ h. h.period) none) in
+    let count = or_parts f.count g.count (ap (λ h. h.count) none) in
+    let kinds = or_parts f.kinds g.kinds (ap (λ h. h.kinds) none) in
+    let long = or_parts f.long g.long (ap (λ h. h.long) none) in
+    let empty = or_parts f.empty g.empty (ap (λ h. h.empty) none) in (
+      clear f.table f.unknown f.ambiguous f.twice f.period f.count f.kinds f.long f.empty
+          table.0 unknown.0 ambiguous.0 twice.0 period.0 count.0 kinds.0 long.0 empty.0,
+      clear g.table g.unknown g.ambiguous g.twice g.period g.count g.kinds g.long g.empty
+          table.1 unknown.1 ambiguous.1 twice.1 period.1 count.1 kinds.1 long.1 empty.1,
+    )
+
+pub clear_parts : {X : Type 0} (f : X → Faults) (xs ys : List X) → faults_among f (xs ++ ys) ≡ no_faults → (faults_among f xs ≡ no_faults) × (faults_among f ys ≡ no_faults)
+clear_parts f xs ys none = both_clear (faults_among f xs) (faults_among f ys) (sym (among_append f xs ys) ∙ none)
+
+-- an element of a list in which nothing was found
+pub clear_at : {X : Type 0} (f : X → Faults) (xs : List X) (i : ℕ) (x : X) → i < length xs → x ≡ get_or xs i x → faults_among f xs ≡ no_faults → f x ≡ no_faults
+clear_at f [] i x here item none = absurd (omega (arith, here))
+clear_at f (y ∷ xs) zero x here item none = ap f item ∙ (both_clear (f y) (faults_among f xs) none).0
+clear_at f (y ∷ xs) (suc i) x here item none = clear_at f xs i x (omega (arith, here)) item (both_clear (f y) (faults_among f xs) none).1

@@ -4,29 +4,21 @@ use Rattle.std.specs.Global.{Box, Vec}
 use Rattle.std.specs.List.{list_any}
 use Rattle.std.proofs.lemmas.Bool.{or_parts}
 use Rattle.std.proofs.lemmas.Bool.Decides.{nat_tests}
-use Rattle.std.proofs.lemmas.List.Folds.{list_any-append}
-use Rattle.period_core.specs.Leasts.{NoneApplies}
 use Rattle.sql_statements.proofs.QueryViews.{combined_view, simple_view}
 use Rattle.sql_statements.specs.Plain.{plain_query, plain_select, plain_step, steps_of}
 use Rattle.sql_statements.specs.Trees as written
 use Rattle.sql_statements.specs.Trees.{Select, Steps, combined, last, simple, step}
 use Rattle.sql_statements.specs.declared.statement.SelectDistinct.{SelectDistinct}
 use Rattle.sql_statements.specs.declared.tree.QueryTree as code
-use Rattle.statement_resolution.proofs.lemmas.judged.FaultSums.{IsPart, part_among}
-use Rattle.catalog_core.proofs.lemmas.judged.Sound.{are_false}
 use Rattle.statement_resolution.proofs.lemmas.query.QueryWalks.{Step, Written}
 use Rattle.statement_resolution.proofs.lemmas.query.ValuePlaces.{drop_at, drop_past}
-use Rattle.catalog_core.specs.RefusalConditions.{Holds}
 use Rattle.statement_resolution.specs.Limits.{most_operators}
-use Rattle.statement_resolution.specs.query.Places.{is_refused, table_count}
+use Rattle.statement_resolution.specs.query.Places.{table_count}
 use Rattle.catalog_core.specs.query.Queries.{Query, both}
-use Rattle.statement_resolution.specs.Faults.{faults_among}
-use Rattle.statement_resolution.specs.query.Faults.{operand_faults, query_faults, select_faults}
-use Rattle.statement_resolution.specs.query.QueryParts.{operator_count, operator_count_among, selects_among, selects_of, sides_of}
-use Rattle.statement_resolution.specs.query.Refusals.{is_above_limit, is_too_long, refusals_of}
+use Rattle.statement_resolution.specs.query.QueryParts.{operator_count, operator_count_among, selects_among, selects_of}
+use Rattle.statement_resolution.specs.query.Refusals.{is_above_limit, is_too_long}
 use Rattle.statement_resolution.specs.query.Resolving.{ResolvesSteps, ResolvesTree}
 use Rattle.statement_resolution.specs.query.Scopes.{tables_of}
-use Rattle.statement_resolution.specs.declared.faults.Faults.{Faults}
 use Rattle.catalog_core.specs.declared.table.TableDef.{TableDef}
 
 -- ---- the steps that are left
@@ -59,32 +51,6 @@ module _ (catalog : List TableDef) where
 
   pub follows_last : (whole : written.Query) (left : Query) (steps : List Step) (i : ℕ) → length steps ≤ i → Follows whole left (rest_of steps i) → ResolvesTree catalog whole left
   follows_last whole left steps i done so_far = so_far left (subst (λ (ss : Steps). ResolvesSteps catalog left ss left) (sym (rest_past steps i done)) refl)
-
-  -- ---- the selects that are refused
-
-  pub sound_first : (query : Written) (first : Box Written) (steps : Vec Step) → query ≡ code.Combined first steps → list_any (is_refused catalog) (selects_of (plain_query query)) ≡ false
-      → (list_any (is_refused catalog) (selects_of (plain_query first.value)) ≡ false) × (list_any (is_refused catalog) (selects_among (steps_of (map plain_step steps.items))) ≡ false)
-  sound_first query first steps is sound =
-      let p : Select → Bool = is_refused catalog in
-      or_parts (list_any p (selects_of (plain_query first.value))) (list_any p (selects_among (steps_of (map plain_step steps.items))))
-      (sym (list_any-append p (selects_of (plain_query first.value)) (selects_among (steps_of (map plain_step steps.items))))
-      ∙ sym (ap (λ (w : written.Query). list_any p (selects_of w)) (ap plain_query is ∙ combined_view first steps)) ∙ sound)
-
-  pub sound_next : (steps : List Step) (i : ℕ) (s : Step) → i < length steps → s ≡ get_or steps i s → list_any (is_refused catalog) (selects_among (rest_of steps i)) ≡ false
-      → (list_any (is_refused catalog) (selects_of (plain_query s.1)) ≡ false) × (list_any (is_refused catalog) (selects_among (rest_of steps (i + 1))) ≡ false)
-  sound_next steps i s here item sound =
-      let p : Select → Bool = is_refused catalog in
-      or_parts (list_any p (selects_of (plain_query s.1))) (list_any p (selects_among (rest_of steps (i + 1))))
-      (sym (list_any-append p (selects_of (plain_query s.1)) (selects_among (rest_of steps (i + 1))))
-      ∙ sym (ap (λ (ss : Steps). list_any p (selects_among ss)) (rest_at steps i s here item)) ∙ sound)
-
-  pub sound_one : (s : Select) → list_any (is_refused catalog) (s ∷ []) ≡ false
-      → ((select_faults catalog s).table ≡ false) × ((select_faults catalog s).unknown ≡ false) × ((select_faults catalog s).period ≡ false)
-  sound_one s sound =
-      let one = or_parts (is_refused catalog s) false sound in
-      let first = or_parts (select_faults catalog s).table _ one.0 in
-      let second = or_parts (select_faults catalog s).unknown (select_faults catalog s).period first.1 in
-      (first.0, second.0, second.1)
 
 -- ---- the number of tables
 
@@ -132,30 +98,7 @@ mutual
   steps_within last = omega arith
   steps_within (step operator query steps) = omega (arith, length-append (selects_of query) (selects_among steps), selects_within query, steps_within steps)
 
--- ---- selects to which no refusal applies
-
-any_three : (p q r : Select → Bool) (ss : List Select) → list_any p ss ≡ false → list_any q ss ≡ false → list_any r ss ≡ false → list_any (λ s. p s || (q s || r s)) ss ≡ false
-any_three p q r [] h k l = refl
-any_three p q r (s ∷ ss) h k l =
-    let first = or_parts (p s) (list_any p ss) h in
-    let second = or_parts (q s) (list_any q ss) k in
-    let third = or_parts (r s) (list_any r ss) l in
-    rw (first.0, second.0, third.0) (any_three p q r ss first.1 second.1 third.1)
-
--- a fault that the query has not, no select has
-no_select : (part : Faults → Bool) → IsPart part → (catalog : List TableDef) (query : written.Query) → part (query_faults catalog query) ≡ false → list_any (λ s. part (select_faults catalog s)) (selects_of query) ≡ false
-no_select part told catalog query none =
-    let selects : Faults = faults_among (select_faults catalog) (selects_of query) in
-    let operators : Faults = faults_among (operand_faults catalog) (sides_of query) in
-    sym (part_among part (select_faults catalog) told (selects_of query)) ∙ (or_parts (part selects) (part operators) (sym (told.both selects operators) ∙ none)).0
-
-pub nothing_refused : (catalog : List TableDef) (query : written.Query) → NoneApplies (Holds (refusals_of catalog query)) → list_any (is_refused catalog) (selects_of query) ≡ false
-nothing_refused catalog query none =
-    let tests = are_false (refusals_of catalog query) none in
-    any_three (λ s. (select_faults catalog s).table) (λ s. (select_faults catalog s).unknown) (λ s. (select_faults catalog s).period) (selects_of query)
-    (no_select (λ f. f.table) (record { none = refl; both = λ f g. refl }) catalog query tests.1.0)
-    (no_select (λ f. f.unknown) (record { none = refl; both = λ f g. refl }) catalog query tests.1.1.0)
-    (no_select (λ f. f.period) (record { none = refl; both = λ f g. refl }) catalog query tests.1.1.1.1.1.0)
+-- ---- the limits
 
 pub few_references : (query : written.Query) → is_above_limit query ≡ false → 0 + table_count (selects_of query) < 1000
 few_references query few_parts =

@@ -91,7 +91,7 @@ module _ {T : Type 0} (f : T → Faults) where
   listed_faults none = refl
   listed_faults (more part parts) = ap (either (condition_faults f part)) (listed_faults parts) ∙ sym (among_append f (tests_of part) (tests_among parts))
 
-  members_faults : (c : Condition T) → faults_among (condition_faults f) (members c) ≡ condition_faults f c
+  pub members_faults : (c : Condition T) → faults_among (condition_faults f) (members c) ≡ condition_faults f c
   members_faults (all parts) = listed_faults parts
   members_faults (any none) = refl
   members_faults (any (more part none)) = members_faults part ∙ ap (faults_among f) (sym (append-nil (tests_of part)))

@@ -13,9 +13,9 @@ use Rattle.sql_statements.specs.declared.statement.JoinChain.{JoinChain}
 use Rattle.sql_statements.specs.declared.statement.SelectDistinct.{SelectDistinct}
 use Rattle.sql_statements.specs.declared.tree.QueryTree as code
 use Rattle.sql_statements.specs.declared.tree.SetOperator.{SetOperator}
-use Rattle.statement_resolution.proofs.lemmas.judged.FaultSums.{among_after, among_append, either_assoc, either_crossed, either_turned}
+use Rattle.statement_resolution.proofs.lemmas.judged.FaultSums.{among_after, among_append, both_clear, clear_at, either_assoc, either_crossed, either_turned}
 use Rattle.statement_resolution.proofs.lemmas.query.ReferenceLists.{front_tables, front_tables_more, tables_in}
-use Rattle.statement_resolution.specs.Faults.{either, faults_among}
+use Rattle.statement_resolution.specs.Faults.{either, faults_among, no_faults}
 use Rattle.statement_resolution.specs.query.Faults.{kinds_faults, operand_faults, query_faults, select_faults, side_kinds}
 use Rattle.statement_resolution.specs.query.QueryParts.{first_select, operator_count, operator_count_among, selects_among, selects_of, sides_among, sides_of}
 use Rattle.statement_resolution.specs.query.Scopes.{chain_tables}
@@ -132,6 +132,23 @@ module _ (catalog : List TableDef) where
       ∙ ap (either (either selects more_selects)) (among_append (operand_faults catalog) (sides_of query) (sides_among left rest))
       ∙ either_crossed selects more_selects (faults_among (operand_faults catalog) (sides_of query)) (faults_among (operand_faults catalog) (sides_among left rest))
       ∙ ap (either (query_faults catalog query)) (of_steps left steps.items)
+
+  -- a query without a fault: its first part and its steps have none
+  clear_many : (query : Written) (first : Box Written) (steps : Vec Step) → query ≡ code.Combined first steps → query_faults catalog (plain_query query) ≡ no_faults
+      → (query_faults catalog (plain_query first.value) ≡ no_faults) × (faults_among (step_faults (first_select (plain_query first.value))) steps.items ≡ no_faults)
+  clear_many query first steps is clean =
+      both_clear (query_faults catalog (plain_query first.value)) (faults_among (step_faults (first_select (plain_query first.value))) steps.items)
+      (sym (faults_many first steps) ∙ sym (ap (λ q. query_faults catalog (plain_query q)) is) ∙ clean)
+
+  pub clear_first : (query q : Written) (first : Box Written) (steps : Vec Step) → query ≡ code.Combined first steps → q ≡ first.value → query_faults catalog (plain_query query) ≡ no_faults
+      → query_faults catalog (plain_query q) ≡ no_faults
+  clear_first query q first steps is same clean = ap (λ w. query_faults catalog (plain_query w)) same ∙ (clear_many query first steps is clean).0
+
+  pub clear_step : (query : Written) (first : Box Written) (steps : Vec Step) (items : List Step) (i : ℕ) (s : Step) → query ≡ code.Combined first steps → items ≡ steps.items → i < length items → s ≡ get_or items i s
+      → query_faults catalog (plain_query query) ≡ no_faults → query_faults catalog (plain_query s.1) ≡ no_faults
+  clear_step query first steps items i s is same here item clean =
+      let f : Step → Faults = step_faults (first_select (plain_query first.value)) in
+      (both_clear (query_faults catalog (plain_query s.1)) _ (clear_at f items i s here item (ap (faults_among f) same ∙ (clear_many query first steps is clean).1))).0
 
 -- in a loop, with the step in hand
 pub step_more : (catalog : List TableDef) (left : Select) (old : Faults) (steps : List Step) (i : ℕ) (s : Step) (before between after : Faults) (kinds next_kinds : List (Option ValueKind))

@@ -1,7 +1,7 @@
 use Rattle.std.specs.Prelude.{◌≡◌, false, take}
 use Rattle.std.specs.List.{list_any}
 use Rattle.sql_statements.specs.declared.statement.Assignment.{Assignment}
-use Rattle.statement_resolution.specs.Flaws.{is_set_again}
+use Rattle.statement_resolution.specs.TableFaults.{is_set_again}
 use Rattle.statement_resolution.proofs.change.portion_faults.sets_twice.Given as goal
 
 abbrev pub invariant-loop-set : goal.invariant-loop-set

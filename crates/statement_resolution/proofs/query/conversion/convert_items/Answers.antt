@@ -22,5 +22,5 @@ loop-item-preserved c =
       faults = c.or.ensures
           ∙ among_after (item_faults columns) c.args.faults.now c.args.items.now c.loop-item.item-index c.item-item.result c.loop-item.faults c.faults.result
           c.loop-item-test.true c.item-item.is c.loop-item.invariant.faults
-          (c.faults.ensures ∙ ap found_faults c.look_up-found.ensures ∙ found_match (matches_among columns c.item-item.result.column));
+          (c.faults.ensures ∙ ap found_faults c.look_up-named.ensures.matched ∙ found_match (matches_among columns c.item-item.result.column));
     }

@@ -1,21 +1,20 @@
 use Rattle.std.proofs.Common.{◌≡◌, ◌<◌, ◌≤◌, ◌+◌, ◌∙◌, List, ap, arith, map, refl, rules, subst, sym}
 use Rattle.std.specs.Prelude.{IfOk}
-use Rattle.std.specs.List.{list_any}
 use Rattle.sql_statements.proofs.QueryViews.{combined_view, simple_view}
 use Rattle.sql_statements.specs.Plain.{plain_query, plain_step, steps_of}
 use Rattle.sql_statements.specs.Trees as written
 use Rattle.sql_statements.specs.Trees.{Select}
 use Rattle.statement_resolution.proofs.lemmas.judged.FaultSums.{among_end, either_assoc, either_none}
-use Rattle.statement_resolution.proofs.lemmas.query.Accepted.{count_first, count_last, count_next, count_one, follows_first, follows_last, follows_next, sound_first, sound_next}
+use Rattle.statement_resolution.proofs.lemmas.query.Accepted.{count_first, count_last, count_next, count_one, follows_first, follows_last, follows_next}
 use Rattle.catalog_core.proofs.lemmas.query.InPlace.{both_within}
 use Rattle.statement_resolution.proofs.lemmas.query.QuerySizes.{first_smaller, size_of, step_smaller}
-use Rattle.statement_resolution.proofs.lemmas.query.QueryWalks.{Step, faults_many, step_faults, step_more}
+use Rattle.statement_resolution.proofs.lemmas.query.QueryWalks.{Step, clear_first, clear_step, faults_many, step_faults, step_more}
 use Rattle.statement_resolution.specs.Faults.{either, faults_among}
 use Rattle.statement_resolution.specs.query.Faults.{query_faults, side_kinds}
-use Rattle.statement_resolution.specs.query.Places.{Converts, is_refused, table_count}
+use Rattle.statement_resolution.specs.query.Places.{Converts, table_count}
 use Rattle.catalog_core.specs.query.Queries as resolved
 use Rattle.catalog_core.specs.query.Queries.{Query, references_of}
-use Rattle.statement_resolution.specs.query.QueryParts.{first_select, selects_among, selects_of}
+use Rattle.statement_resolution.specs.query.QueryParts.{first_select, selects_of}
 use Rattle.statement_resolution.specs.query.Resolving.{ResolvesTree}
 use Rattle.statement_resolution.specs.declared.faults.Faults.{Faults}
 use Rattle.statement_resolution.proofs.query.query_conversion.+convert_query.Goals as goal
@@ -63,10 +62,8 @@ loop-step-init t c =
     let left : Query = resolved.plain_query c.in_ok-left-in-Combined.left.query in
     let count : table_count (selects_of (plain_query c.deref.result.now)) ≡ table_count (selects_of (plain_query first.value)) = ap (λ (w : written.Query). table_count (selects_of w)) at in
     record {
-      same = λ sound.
-          let own = ap (λ (w : written.Query). list_any (is_refused catalog) (selects_of w)) at ∙ (sound_first catalog query first steps c.in-Combined.is sound).0 in
-          follows_first catalog query first steps items left c.in-Combined.is same (subst (λ (w : written.Query). ResolvesTree catalog w left) at (begun.same own));
-      sound = λ sound. ap (λ (xs : List Step). list_any (is_refused catalog) (selects_among (steps_of (map plain_step xs)))) same ∙ (sound_first catalog query first steps c.in-Combined.is sound).1;
+      same = λ clean. follows_first catalog query first steps items left c.in-Combined.is same
+          (subst (λ (w : written.Query). ResolvesTree catalog w left) at (begun.same (clear_first catalog query c.deref.result.now first steps c.in-Combined.is c.deref.ensures clean)));
       room = omega (arith, count, count_first query first steps items c.in-Combined.is same, begun.tables);
       placed = begun.placed;
       counted = begun.counted;
@@ -96,8 +93,8 @@ loop-step-preserved t c =
     (so_far.placed, so_far.counted, within) (found.placed, found.counted, last) in
     let first : Select = first_select (plain_query c.args.query.now) in
     record {
-      same = λ sound. follows_next catalog (plain_query c.args.query.now) left right next items i s here item (so_far.same sound) (found.same (sound_next catalog items i s here item (so_far.sound sound)).0) joined.query;
-      sound = λ sound. (sound_next catalog items i s here item (so_far.sound sound)).1;
+      same = λ clean. follows_next catalog (plain_query c.args.query.now) left right next items i s here item (so_far.same clean)
+          (found.same (clear_step catalog c.args.query.now c.in-Combined.first c.in-Combined.steps items i s c.in-Combined.is c.deref-step-items.ensures.value here item clean)) joined.query;
       room = omega (arith, count_next items i s here item, so_far.room, found.tables);
       placed = whole.0;
       counted = whole.1;
@@ -119,7 +116,7 @@ returns-after-loop-step t c =
     let left : Select = first_select (plain_query first.value) in
     let others : Faults = faults_among (step_faults catalog left) steps.items in
     record {
-      same = λ sound. follows_last catalog (plain_query query) (resolved.plain_query c.loop-step.left.query) items c.loop-step.step-index end (so_far.same sound);
+      same = λ clean. follows_last catalog (plain_query query) (resolved.plain_query c.loop-step.left.query) items c.loop-step.step-index end (so_far.same clean);
       placed = so_far.placed;
       counted = so_far.counted;
       tables = omega (arith, so_far.room, count_last items c.loop-step.step-index end);

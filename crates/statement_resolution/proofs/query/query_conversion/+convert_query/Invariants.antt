@@ -1,13 +1,12 @@
-use Rattle.std.proofs.Common.{◌≡◌, ◌+◌, false, length, take, true}
-use Rattle.std.specs.List.{list_any}
+use Rattle.std.proofs.Common.{◌≡◌, ◌+◌, length, take, true}
 use Rattle.sql_statements.specs.Plain.{plain_query}
 use Rattle.statement_resolution.proofs.lemmas.query.Accepted.{Follows, rest_of}
 use Rattle.statement_resolution.proofs.lemmas.query.QuerySizes.{size_of}
 use Rattle.statement_resolution.proofs.lemmas.query.QueryWalks.{step_faults}
 use Rattle.catalog_core.specs.query.Fitting.{are_in_place}
-use Rattle.statement_resolution.specs.Faults.{either, faults_among}
-use Rattle.statement_resolution.specs.query.Faults.{side_kinds}
-use Rattle.statement_resolution.specs.query.Places.{is_refused, table_count}
+use Rattle.statement_resolution.specs.Faults.{either, faults_among, no_faults}
+use Rattle.statement_resolution.specs.query.Faults.{query_faults, side_kinds}
+use Rattle.statement_resolution.specs.query.Places.{table_count}
 use Rattle.catalog_core.specs.query.Queries as resolved
 use Rattle.catalog_core.specs.query.Queries.{references_of}
 use Rattle.statement_resolution.specs.query.QueryParts.{first_select, selects_among, selects_of}
@@ -18,9 +17,8 @@ decreases-convert_query l = size_of (plain_query l.query.now)
 
 abbrev pub invariant-loop-step : goal.invariant-loop-step
 invariant-loop-step l = record {
-  same : list_any (is_refused l.catalog.tables) (selects_of (plain_query l.query)) ≡ false
+  same : query_faults l.catalog.tables (plain_query l.query) ≡ no_faults
       → Follows l.catalog.tables (plain_query l.query) (resolved.plain_query l.left.query) (rest_of l.step-items l.step-index);
-  sound : list_any (is_refused l.catalog.tables) (selects_of (plain_query l.query)) ≡ false → list_any (is_refused l.catalog.tables) (selects_among (rest_of l.step-items l.step-index)) ≡ false;
   room : l.place + table_count (selects_among (rest_of l.step-items l.step-index)) ≡ l.fn.place + table_count (selects_of (plain_query l.query));
   placed : are_in_place l.fn.place (references_of (resolved.plain_query l.left.query)) ≡ true;
   counted : l.fn.place + length (references_of (resolved.plain_query l.left.query)) ≡ l.place;

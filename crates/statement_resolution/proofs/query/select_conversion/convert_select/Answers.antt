@@ -1,8 +1,7 @@
 use Rattle.std.proofs.Common.{◌≡◌, ◌∙◌, List, [], ap, arith, length, map, sym}
 use Rattle.std.proofs.lemmas.List.{length-map}
 use Rattle.sql_statements.specs.Plain.{plain_select}
-use Rattle.statement_resolution.proofs.lemmas.query.Accepted.{sound_one}
-use Rattle.statement_resolution.proofs.lemmas.query.Converted.{accepted_conjuncts, accepted_items, accepted_references}
+use Rattle.statement_resolution.proofs.lemmas.query.Converted.{select_agrees}
 use Rattle.statement_resolution.proofs.lemmas.query.ReferenceLists.{Borrowed}
 use Rattle.statement_resolution.proofs.lemmas.query.ScopeFaults.{select_sum}
 use Rattle.statement_resolution.specs.Faults.{either}
@@ -40,14 +39,14 @@ returns c =
     omega (arith, ap length c.in_ok-references-2.ensures.parts, ap length borrowed, length-map (map now c.as_slice-2.result.now) (placed_reference catalog), length-map c.in_ok-references-2.references.items reference_parts) in
     let same_length = ap length c.from_vec.ensures in
     record {
-      same = λ sound.
-          let parts = sound_one catalog s sound in
+      same = λ clean.
+          let parts = select_agrees catalog s clean in
           record {
-            references = accepted_references catalog s parts.0 ∙ ap (map (placed_reference catalog)) (sym borrowed)
+            references = parts.references ∙ ap (map (placed_reference catalog)) (sym borrowed)
                 ∙ c.in_ok-references-2.ensures.parts ∙ ap (map reference_parts) (sym c.from_vec.ensures);
-            conjuncts = accepted_conjuncts catalog s parts.1 parts.2 ∙ sym c.in_ok-conjuncts.ensures.placed ∙ ap (map conjunct_parts) (sym c.from_vec-2.ensures);
+            conjuncts = parts.conjuncts ∙ sym c.in_ok-conjuncts.ensures.placed ∙ ap (map conjunct_parts) (sym c.from_vec-2.ensures);
             items =
-                accepted_items catalog s parts.1 parts.2
+                parts.items
                 ∙ ap (λ (cs : List SeenColumn). map (placed_item (place_among [] cs)) s.items) (sym seen)
                 ∙ ap (map (placed_item (place_among [] c.as_slice-3.result.now))) (sym c.as_slice-4.ensures.value)
                 ∙ c.in_ok-items.ensures.numbered ∙ ap (map item_parts) (sym c.from_vec-3.ensures);
