@@ -151,7 +151,8 @@ lacks_one_of_each c =
 unfoldable pub has_bad_period : CreateTable → Bool
 has_bad_period c =
     list_any
-    (λ (x : PeriodElement). not (are_dates (columns_of c) (own_place c x.start) (own_place c x.end)))
+    (λ (x : PeriodElement).
+    not (are_dates (columns_of c) (own_place c x.start) (own_place c x.end)))
     c.periods
 
 -- a name is not of a column with such a kind

@@ -1,5 +1,5 @@
--- Tests of a definition by its names and places, in the order of CREATE's. It passes them all if some
--- CREATE that is accepted gives it.
+-- Tests of a definition by its names and places, in the order of CREATE's. It passes them all if
+-- some CREATE that is accepted gives it.
 use Rattle.std.specs.Prelude.{◌==◌, ◌&&◌, ◌||◌, ◌+◌, ℕ, Bool, not, List, Some, bytes_eq, cond}
 use Rattle.std.specs.Prelude.{length, nat_le, nat_lt}
 use Rattle.std.specs.List.{enumerate_from, list_all, list_any}

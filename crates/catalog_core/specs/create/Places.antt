@@ -1,5 +1,5 @@
--- Tests of columns, keys and references by places. CREATE TABLE is judged by them once each name has
--- its place, and the definitions of a store are too.
+-- Tests of columns, keys and references by places. CREATE TABLE is judged by them once each name
+-- has its place, and the definitions of a store are too.
 use Rattle.std.specs.Prelude.{◌==◌, ◌&&◌, ℕ, Bool, true, false, not, List, Option, Some, None}
 use Rattle.std.specs.Prelude.{count_by, nat_lt, slice_get}
 use Rattle.std.specs.List.{list_all, list_any, zip}

@@ -151,7 +151,8 @@ pub fn build(
         create.now.periods ≡ false }
     requires keys { list_any (λ (x : KeyElement). some_own_match create.now Zero x.columns)
         create.now.keys ≡ false }
-    requires references { list_all (is_reference (length create.now.columns)) references.items ≡ true }
+    requires references { list_all (is_reference (length create.now.columns)) references.items
+        ≡ true }
     ensures name { IfOk result (λ d. d.name ≡ create.now.name) }
     ensures columns { IfOk result (λ d. d.columns ≡ columns.items) }
     ensures period { IfOk result (λ d. map (declared_period create.now) create.now.periods

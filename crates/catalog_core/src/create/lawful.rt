@@ -63,8 +63,8 @@ fn names_several(definition: &TableDef, name: &Name) -> bool
     columns > 1 || (columns == 1 && name.is(&definition.period.name))
 }
 
-/// Whether two of the columns and the period share a name, or a place is repeated in the key or in a
-/// list of a reference.
+/// Whether two of the columns and the period share a name, or a place is repeated in the key or in
+/// a list of a reference.
 #[tactic(auto, unfolding(crate::specs::create::PlacedTests::repeats_some))]
 fn repeats_some(definition: &TableDef) -> bool
     ensures { result ≡ repeats_some definition.now }

@@ -1,5 +1,5 @@
-//! Tests of columns, keys and references by places: CREATE TABLE is judged by them once each name has
-//! its place, and a definition of a store. No test takes memory.
+//! Tests of columns, keys and references by places. CREATE TABLE is judged by them once each name
+//! has its place, and the definitions of a store are too. No test takes memory.
 
 ghost use Rattle.std.specs.Prelude.{◌≡◌, Some};
 ghost use Rattle.std.specs.List.{list_all, list_any};

@@ -1,5 +1,5 @@
-//! CREATE TABLE: what its periods, key, types and references decide, with its columns and references
-//! by places. No test takes memory.
+//! CREATE TABLE: what its periods, key, types and references decide, with its columns and
+//! references by places. No test takes memory.
 
 ghost use Rattle.std.specs.Prelude.{◌≡◌, false, map};
 ghost use Rattle.catalog_core.specs.create.Creation.{has_bad_column, has_bad_period};

@@ -1,4 +1,4 @@
--- What a CREATE declares by names is what the definition that it gives has by places.
+-- A CREATE declares by names what the definition that it gives has by places.
 use Rattle.std.proofs.Common.{◌≡◌, ◌+◌, ◌∷◌, ◌||◌, ◌∙◌, ℕ, suc, Bool, true, false, not, List, [], Option, None, Some, arith, ap, ap₂, bytes_eq, cond, count_by, get_or, length, map, nat_lt, refl, sym}
 use Rattle.std.specs.Prelude.{◌==◌, filter_map, is_some, slice_get}
 use Rattle.std.specs.List.{cons_option, enumerate_from, list_any}
