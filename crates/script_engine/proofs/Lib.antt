@@ -29,7 +29,6 @@ mod ColumnFacts
 mod Contents
 mod CurrentAfter
 mod StoredShown
-mod KeyedShown
 mod Handed
 mod InMemory
 mod Loaded
@@ -48,7 +47,8 @@ mod NotedFacts
 mod UnwrittenFacts
 mod ReadOnlyFacts
 mod Needed
-mod NeededPast
+mod Read
+mod Taken
 mod NewStore
 mod Openings
 mod AuditCounts

@@ -90,15 +90,6 @@ module _ (c : Contents) (number width : ℕ) (good : AreGood NoExtraCondition c)
       Contains-permutation its (of_table number c.versions) (version_in number v) (IsPermutation-sym (of_table number c.versions) its all) (in_map (version_in number) versions v among) in
       good_width v (from_filter (λ (w : TableVersion). w.table == number) c.versions (version_in number v) here).0
 
-  pub current_width : (tables : List RowsByKey) → HaveCurrentRows c tables → (v : VersionRow) → Contains (rows_in tables number) v → length v.values ≡ width
-  current_width tables current v among =
-      let versions : List VersionRow = rows_in tables number in
-      let its : List TableVersion = map (version_in number) versions in
-      let seen : Contains (seen_of number Now c.versions) (version_in number v) =
-      Contains-permutation its (seen_of number Now c.versions) (version_in number v) (IsPermutation-sym (seen_of number Now c.versions) its (current.rows number)) (in_map (version_in number) versions v among) in
-      let here = (from_filter (λ (w : TableVersion). window_sees Now w.from w.to) (of_table number c.versions) (version_in number v) seen).0 in
-      good_width v (from_filter (λ (w : TableVersion). w.table == number) c.versions (version_in number v) here).0
-
 -- all that a reference sees are values of rows of its table
 module _ (history : History) (c : Contents) (reference : QueryReference) (said : AreOfHistory history c) where
   abbrev held_rows : List VersionRow
@@ -143,69 +134,6 @@ module _ (history : History) (c : Contents) (reference : QueryReference) (said :
       (each_among (λ (row : PeriodRow). has_kinds reference.kinds row.values ≡ true) rows
       (λ row among. sees_kinds known row.period.start row.values (needed.sound row.period.start row.values (InSnapshot-start rows row among))))
 
--- ---- the needed rows of one reference
-
--- the current rows in memory are those that the reference sees
-current_same : (history : History) (c : Contents) (tables : List RowsByKey) (reference : QueryReference) → AreOfHistory history c → HaveCurrentRows c tables → reference.window ≡ Now → (day : ℤ) (values : List Value) →
-    (InSnapshot (map row_of (rows_in tables reference.table)) day values ↔ VisibleInHistory history day reference values)
-current_same history c tables reference said current now =
-    let all : List PeriodRow = map row_of (rows_in tables reference.table) in
-    let seen : AreRowsSeen c reference.table reference.window all = subst (λ (w : Window). AreRowsSeen c reference.table w all) (sym now) (current_seen c tables reference.table all current refl) in
-    (sees_rows history c reference all said seen).daily
-
--- of the current rows in memory, the rows that are not ruled out are needed
-pub current_needed : (history : History) (c : Contents) (tables : List RowsByKey) (conjuncts : Conditions) (start : ℕ) (reference : QueryReference) (rows : List PeriodRow) → AreOfHistory history c → HaveCurrentRows c tables → reference.window ≡ Now →
-    IsPruned conjuncts start (InSnapshot (map row_of (rows_in tables reference.table))) rows → IsNeeded history conjuncts start reference rows
-current_needed history c tables conjuncts start reference rows said current now pruned =
-    let same = current_same history c tables reference said current now in
-    record {
-      sound = λ day values h. (same day values).0 (pruned.sound day values h);
-      complete = λ day first values rest e h met. pruned.complete day first values rest e ((same day values).1 h) met;
-    }
-
--- and those that are looked up
-pub current_looked_up : (StandBefore : ℤ → List Value → Type 0) (history : History) (c : Contents) (tables : List RowsByKey) (conjuncts : Conditions) (start : ℕ) (reference : QueryReference) (rows : List PeriodRow) → AreOfHistory history c → HaveCurrentRows c tables →
-    reference.window ≡ Now → IsPrunedAfter StandBefore conjuncts start (InSnapshot (map row_of (rows_in tables reference.table))) rows → IsPrunedAfter StandBefore conjuncts start (λ day. VisibleInHistory history day reference) rows
-current_looked_up StandBefore history c tables conjuncts start reference rows said current now pruned =
-    let same = current_same history c tables reference said current now in
-    record {
-      sound = λ day values h. (same day values).0 (pruned.sound day values h);
-      complete = λ day first values rest e before h met. pruned.complete day first values rest e before ((same day values).1 h) met;
-    }
-
--- the versions of the keys in a range
-module _ (width : ℕ) (positions : List ℕ) (range : KeyRange) (versions : List VersionRow) where
-  abbrev ranged : List VersionRow
-  ranged = filter (has_key_in positions range) versions
-
-  from_ranged : (day : ℤ) (values : List Value) → InSnapshot (map row_of ranged) day values → InSnapshot (map row_of versions) day values
-  from_ranged day values h =
-      let (row, among, same, on) = held (map row_of ranged) day values h in
-      let (v, its, made) = from_map row_of ranged row among in
-      in_snapshot (map row_of versions) day values
-      (row, subst (Contains (map row_of versions)) made (in_map row_of versions v (from_filter (has_key_in positions range) versions v its).0), same, on)
-
-  in_ranged : ((v : VersionRow) → Contains versions v → length v.values ≡ width) → (day : ℤ) (values : List Value) → (length values ≡ width → is_in_range range (values_at positions values) ≡ true) →
-      InSnapshot (map row_of versions) day values → InSnapshot (map row_of ranged) day values
-  in_ranged widths day values within h =
-      let (row, among, same, on) = held (map row_of versions) day values h in
-      let (v, its, made) = from_map row_of versions row among in
-      let its_values : v.values ≡ values = ap (λ (r : PeriodRow). r.values) made ∙ same in
-      let long : length values ≡ width = sym (ap length its_values) ∙ widths v its in
-      let its_key : has_key_in positions range v ≡ true = ap (λ (vs : List Value). is_in_range range (values_at positions vs)) its_values ∙ within long in
-      in_snapshot (map row_of ranged) day values
-      (row, subst (Contains (map row_of ranged)) made (in_map row_of ranged v (in_filter (has_key_in positions range) versions v its its_key)), same, on)
-
--- versions of the keys that the conditions leave
-module _ (conjuncts : Conditions) (start width : ℕ) (positions : List ℕ) (range : KeyRange) (versions : List VersionRow) (rows : List PeriodRow) where
-  pub ranged_needed : IsRangeWithin conjuncts start width positions range → ((v : VersionRow) → Contains versions v → length v.values ≡ width) → IsPruned conjuncts start (InSnapshot (map row_of (ranged width positions range versions))) rows →
-      IsPruned conjuncts start (InSnapshot (map row_of versions)) rows
-  ranged_needed within widths pruned = record {
-    sound = λ day values h. from_ranged width positions range versions day values (pruned.sound day values h);
-    complete = λ day first values rest e h met.
-        pruned.complete day first values rest e (in_ranged width positions range versions widths day values (λ long. within first values rest e long met) h) met;
-  }
-
 -- ---- rows that stand before
 
 in_rows_more : (earlier : List (List PeriodRow)) (rows : List PeriodRow) (day : ℤ) (first second : List Value) → InRows earlier day first → InSnapshot rows day second → InRows (earlier ++ rows ∷ []) day (first ++ second)
@@ -224,44 +152,12 @@ in_rows_end (others ∷ earlier) rows day values (before, behind, there, more, i
     let (first, last, here, its) = in_rows_end earlier rows day behind more in
     (before ++ first, last, here, append_assoc before first last ∙ ap (λ (l : List Value). before ++ l) its ∙ is)
 
--- ---- rows that are looked up after one of those that stand before them
-
-module _ (conjuncts : Conditions) (start width : ℕ) (current : RowsByKey) where
-  abbrev pub AreLookedUp : List PeriodRow → List PeriodRow → Type 0
-  AreLookedUp previous rows = IsPrunedAfter (EndInRow previous) conjuncts start (InSnapshot (map row_of current.rows)) rows
-
-  pub looked_up_none : AreLookedUp [] []
-  looked_up_none = record {
-    sound = λ day values h. absurd (holds-nil day values h);
-    complete = λ day first values rest long (before, last, here, is) there met. absurd (holds-nil day last here);
-  }
-
-  -- after one row more, those whose keys are in the range that its values leave
-  pub looked_up_more : (range : KeyRange) (previous : List PeriodRow) (row : PeriodRow) (rows new : List PeriodRow) → IsRangeAfter conjuncts row.values start width current.positions range →
-      ((v : VersionRow) → Contains current.rows v → length v.values ≡ width) → IsPruned conjuncts start (InSnapshot (rows ++ map row_of (rows_within current range))) new → AreLookedUp previous rows → AreLookedUp (previous ++ row ∷ []) new
-  looked_up_more range previous row rows new within widths pruned old =
-      let found : List PeriodRow = map row_of (rows_within current range) in
-      record {
-        sound = λ day values h. elim ((holds-append rows found day values).0 (pruned.sound day values h)) [
-          | inl was ↦ old.sound day values was
-          | inr here ↦ from_ranged width current.positions range current.rows day values here
-        ];
-        complete = λ day first values rest long (before, last, here, is) there met.
-            pruned.complete day first values rest long
-            ((holds-append rows found day values).1 (elim ((holds-push previous row day last).0 here) [
-              | inl was ↦ inl (old.complete day first values rest long (before, last, was, is) there met)
-              | inr (same, from, to) ↦ let its : before ++ row.values ≡ first = ap (λ (l : List Value). before ++ l) same ∙ is in
-                  inr (in_ranged width current.positions range current.rows widths day values
-                  (λ wide. within before values rest (ap length its ∙ long) wide (subst (λ (l : List Value). meets_all conjuncts (l ++ (values ++ rest)) ≡ true) (sym its) met)) there)
-            ])) met;
-      }
-
-  -- rows with the same snapshots are looked up too
-  pub looked_up_alike : (previous rows others : List PeriodRow) → Equivalent rows others → AreLookedUp previous rows → AreLookedUp previous others
-  looked_up_alike previous rows others same looked = record {
-    sound = λ day values h. looked.sound day values ((same day values).1 h);
-    complete = λ day first values rest long before there met. (same day values).0 (looked.complete day first values rest long before there met);
-  }
+-- rows with the same snapshots as those that are looked up
+pub looked_up_alike : (StandBefore : ℤ → List Value → Type 0) (conjuncts : Conditions) (start : ℕ) (InSet : ℤ → List Value → Type 0) (rows others : List PeriodRow) → Equivalent rows others → IsPrunedAfter StandBefore conjuncts start InSet rows → IsPrunedAfter StandBefore conjuncts start InSet others
+looked_up_alike StandBefore conjuncts start InSet rows others same looked = record {
+  sound = λ day values h. looked.sound day values ((same day values).1 h);
+  complete = λ day first values rest long before sees met. (same day values).0 (looked.complete day first values rest long before sees met);
+}
 
 -- rows that are needed whatever stands before them
 pub needed_always : (history : History) (earlier : List (List PeriodRow)) (conjuncts : Conditions) (start : ℕ) (reference : QueryReference) (rows : List PeriodRow) → IsNeeded history conjuncts start reference rows →

@@ -1,7 +1,6 @@
 -- One table reference sees, as period rows, the versions that its window sees.
 use Rattle.std.proofs.Common.{◌≡◌, ◌↔◌, ◌++◌, ◌∙◌, ℕ, ℤ, Bool, List, filter, map, refl, reverse, sym, ap, subst}
 use Rattle.std.proofs.lemmas.List.{map-append}
-use Rattle.std.proofs.lemmas.List.Elements.{filter-append}
 use Rattle.std.specs.List.Sorted.{IsPermutation}
 use Rattle.std.proofs.lemmas.List.Sorted.{Contains-permutation, IsPermutation-append, IsPermutation-append_right, IsPermutation-filter_both, IsPermutation-map, IsPermutation-reverse, IsPermutation-sym, IsPermutation-trans}
 use Rattle.sqlite_trees.proofs.ListLemmas.{IsPermutation-filter, filter-map, map-map}
@@ -25,6 +24,7 @@ use Rattle.ended_versions.specs.Packed.{PackedVersion, seen_through}
 use Rattle.script_engine.specs.engine.Ended.{HasEnded, table_ended}
 use Rattle.script_engine.specs.engine.Answering.{AreRowsSeen, SeesRows}
 use Rattle.script_engine.specs.engine.InMemory.{HaveCurrentRows, rows_in}
+use Rattle.script_engine.specs.engine.Reading.{versions_in}
 use Rattle.script_engine.specs.engine.Stored.{AreOfHistory}
 use Rattle.script_engine.proofs.LastState.{recorded_rows, values_along}
 use Rattle.script_engine.proofs.PlanFacts.{filtered_twice, seen_rows}
@@ -39,39 +39,32 @@ current_seen c tables number rows current are = record { versions = rows_in tabl
 -- all versions of a table are in memory: the current ones, and those that have ended
 pub all_in_memory :
     (c : Contents) (tables : List RowsByKey) (number : ℕ) (list : List PackedVersion) (current : HaveCurrentRows c tables) (ended : HasEnded c number list)
-    → IsPermutation (of_table number c.versions) (map (version_in number) (rows_in tables number ++ ended.versions))
+    → IsPermutation (of_table number c.versions) (map (version_in number) (versions_in tables number ended.versions))
 all_in_memory c tables number list current ended =
     let versions : List TableVersion = of_table number c.versions in
     let is_current : TableVersion → Bool = λ v. window_sees Now v.from v.to in
     let now : List VersionRow = rows_in tables number in
+    let both : IsPermutation versions (map (version_in number) (now ++ ended.versions)) =
     subst (IsPermutation versions) (sym (map-append (version_in number) now ended.versions))
     (IsPermutation-trans versions (filter is_current versions ++ filter table_ended versions) (map (version_in number) now ++ map (version_in number) ended.versions)
     (IsPermutation-filter_both is_current table_ended (λ v. refl) versions)
-    (IsPermutation-append (filter is_current versions) (map (version_in number) now) (filter table_ended versions) (map (version_in number) ended.versions) (current.rows number) ended.all))
+    (IsPermutation-append (filter is_current versions) (map (version_in number) now) (filter table_ended versions) (map (version_in number) ended.versions) (current.rows number) ended.all)) in
+    IsPermutation-trans versions (map (version_in number) (now ++ ended.versions)) (map (version_in number) (now ++ reverse ended.versions)) both
+    (IsPermutation-map (version_in number) (now ++ ended.versions) (now ++ reverse ended.versions) (IsPermutation-append_right now ended.versions (reverse ended.versions) (IsPermutation-reverse ended.versions)))
 
--- the stored rows that a window sees are all that it sees
+-- those of them that a window sees are all that it sees
 pub memory_seen :
-    (c : Contents) (tables : List RowsByKey) (number : ℕ) (list : List PackedVersion) (window : Window) (rows : List PeriodRow) (current : HaveCurrentRows c tables) (ended : HasEnded c number list)
-    → rows ≡ map row_of (seen_through window (rows_in tables number)) ++ map row_of (reverse (seen_through window ended.versions))
-    → AreRowsSeen c number window rows
-memory_seen c tables number list window rows current ended made =
+    (c : Contents) (tables : List RowsByKey) (number : ℕ) (list : List PackedVersion) (window : Window) (current : HaveCurrentRows c tables) (ended : HasEnded c number list)
+    → AreRowsSeen c number window (map row_of (seen_through window (versions_in tables number ended.versions)))
+memory_seen c tables number list window current ended =
     let sees : TableVersion → Bool = λ v. window_sees window v.from v.to in
-    let now : List VersionRow = rows_in tables number in
-    let both : List VersionRow = now ++ ended.versions in
-    let first : List VersionRow = seen_through window now in
-    let second : List VersionRow = seen_through window ended.versions in
-    let seen : IsPermutation (seen_of number window c.versions) (map (version_in number) (seen_through window both)) =
-    subst (IsPermutation (seen_of number window c.versions)) (filter-map sees (version_in number) both)
-    (IsPermutation-filter sees (of_table number c.versions) (map (version_in number) both) (all_in_memory c tables number list current ended)) in
-    let split : seen_through window both ≡ first ++ second = filter-append (λ (v : VersionRow). window_sees window v.from v.to) now ended.versions in
-    let turned : IsPermutation (seen_through window both) (first ++ reverse second) =
-    subst (λ (l : List VersionRow). IsPermutation l (first ++ reverse second)) (sym split) (IsPermutation-append_right first second (reverse second) (IsPermutation-reverse second)) in
+    let all : List VersionRow = versions_in tables number ended.versions in
     record {
-      versions = first ++ reverse second;
+      versions = seen_through window all;
       all =
-          IsPermutation-trans (seen_of number window c.versions) (map (version_in number) (seen_through window both)) (map (version_in number) (first ++ reverse second))
-          seen (IsPermutation-map (version_in number) (seen_through window both) (first ++ reverse second) turned);
-      made = made ∙ sym (map-append row_of first (reverse second));
+          subst (IsPermutation (seen_of number window c.versions)) (filter-map sees (version_in number) all)
+          (IsPermutation-filter sees (of_table number c.versions) (map (version_in number) all) (all_in_memory c tables number list current ended));
+      made = refl;
     }
 
 -- ---- rows that the window sees are what the reference sees

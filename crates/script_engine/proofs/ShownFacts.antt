@@ -1,5 +1,5 @@
 -- Lists of versions in order, and what a stored query shows of them.
-use Rattle.std.proofs.Common.{◌≡◌, ◌&&◌, ◌∷◌, ℕ, Bool, true, false, List, [], length, map, refl, sym, subst₂, arith}
+use Rattle.std.proofs.Common.{◌≡◌, ◌∷◌, ℕ, Bool, false, List, [], length, map, sym, subst₂, arith}
 use Rattle.std.specs.Prelude.{IsSorted, ◌+◌, ◌<◌}
 use Rattle.std.specs.List.Sorted.{IsSortedBy}
 use Rattle.std.specs.Ordering.{is_lt}
@@ -21,8 +21,3 @@ versions_sorted table (row ∷ rows) h k d low high =
     subst₂ (λ (a b : TableVersion). is_lt (version_cmp a b) ≡ false)
     (sym (get_or-map (version_in table) (row ∷ rows) (k + 1) row d inside)) (sym (get_or-map (version_in table) (row ∷ rows) k row d (omega arith)))
     (h k row low inside)
-
--- a version that is shown is seen by the window
-pub seen_first : (a b : Bool) → (a && b) ≡ true → a ≡ true
-seen_first true b e = refl
-seen_first false b e = e

@@ -1,25 +1,29 @@
 -- A stored query shows of the versions in memory, in order, what it shows of all versions.
-use Rattle.std.proofs.Common.{◌≡◌, ◌++◌, ℕ, false, List, get_or, map, refl, reverse, subst}
+use Rattle.std.proofs.Common.{◌≡◌, ◌&&◌, ◌∙◌, ℕ, Bool, false, true, ap, List, get_or, inl, inr, map, refl, sym}
 use Rattle.std.specs.Prelude.{◌+◌, IsSorted}
 use Rattle.std.specs.List.Sorted.{IsPermutation, IsSortedBy}
 use Rattle.std.specs.Ordering.{int_cmp, is_lt, ordering_then}
 use Rattle.std.specs.declared.cmp.Ordering.{Ordering}
 use Rattle.std.specs.declared.cmp.Ordering.TheVariants.{Equal, Greater, Less}
-use Rattle.std.proofs.lemmas.List.Elements.{filter-append}
-use Rattle.std.proofs.lemmas.List.Sorted.{IsPermutation-append_right, IsPermutation-reverse, IsPermutation-sym, IsPermutation-trans}
-use Rattle.sqlite_trees.proofs.ListLemmas.{IsPermutation-filter, filter-filter}
+use Rattle.std.proofs.lemmas.Bool.{false≢true}
+use Rattle.std.proofs.lemmas.List.Sorted.{IsPermutation-sym, IsPermutation-trans}
+use Rattle.sqlite_trees.proofs.ListLemmas.{IsPermutation-filter}
 use Rattle.period_core.specs.Order as rows
 use Rattle.period_core.specs.Order.{values_cmp}
 use Rattle.period_core.specs.Windows.{window_sees}
 use Rattle.period_core.specs.declared.version.VersionRow.{VersionRow}
+use Rattle.period_core.specs.declared.window.Window.{Window}
 use Rattle.catalog_core.specs.stored.StoredAnswers.{is_shown, meets_tests, shown_versions}
 use Rattle.catalog_core.specs.declared.stored.Stored.{Stored}
-use Rattle.ended_versions.specs.Packed.{seen_through}
+use Rattle.period_keys.specs.Versions.{has_key_in}
 use Rattle.history_model.proofs.HistoryVersionFacts.{from_images}
 use Rattle.version_store.specs.Contents.{Contents, TableVersion, of_table, version_cmp, version_in}
+use Rattle.script_engine.specs.declared.engine.reading.Access.{Access}
+use Rattle.script_engine.specs.engine.Reading.{AreTaken, IsRead, MayBeUnread}
 use Rattle.script_engine.specs.engine.VersionLists.{AreShownIn}
 use Rattle.script_engine.proofs.PlanFacts.{one_version}
-use Rattle.script_engine.proofs.ShownFacts.{below, seen_first, versions_sorted}
+use Rattle.script_engine.proofs.ShownFacts.{below, versions_sorted}
+use Rattle.script_engine.proofs.Taken.{exactly_taken}
 
 -- an order that continues is at least as fine
 front : (values start from rest : Ordering) → is_lt (ordering_then values (ordering_then start (ordering_then from rest))) ≡ false → is_lt (ordering_then values (ordering_then start from)) ≡ false
@@ -48,25 +52,39 @@ all_rows table versions rows memory all are =
     (IsPermutation-trans (map (version_in table) rows) (of_table table versions) (map (version_in table) memory)
     (IsPermutation-sym (of_table table versions) (map (version_in table) rows) all) are)
 
--- versions shown of the current ones and, through the window, of those that have ended, in order,
--- are what the query shows of all
-pub shown_of_memory : (c : Contents) (query : Stored) (current ended shown : List VersionRow) → IsPermutation (of_table query.table c.versions) (map (version_in query.table) (current ++ ended)) →
-    IsPermutation (shown_versions query current ++ shown_versions query (reverse (seen_through query.window ended))) shown → IsSorted rows.version_cmp shown → AreShownIn c query shown
-shown_of_memory c query current ended shown memory same sorted versions all =
-    let sees = λ (v : VersionRow). window_sees query.window v.from v.to in
-    let now : List VersionRow = shown_versions query current in
-    let back : List VersionRow = shown_versions query (reverse (seen_through query.window ended)) in
-    let those : IsPermutation (shown_versions query versions) (now ++ shown_versions query ended) =
-    subst (IsPermutation (shown_versions query versions)) (filter-append (is_shown query) current ended)
-    (IsPermutation-filter (is_shown query) versions (current ++ ended) (all_rows query.table c.versions versions (current ++ ended) all memory)) in
-    let turned : IsPermutation (shown_versions query ended) back =
-    subst (λ (l : List VersionRow). IsPermutation l back)
-    (filter-filter (is_shown query) sees (λ v e. seen_first (sees v) (meets_tests query.condition v) e) ended)
-    (IsPermutation-filter (is_shown query) (seen_through query.window ended) (reverse (seen_through query.window ended)) (IsPermutation-reverse (seen_through query.window ended))) in
-    record {
-      all =
-          IsPermutation-trans (shown_versions query versions) (now ++ shown_versions query ended) shown those
-          (IsPermutation-trans (now ++ shown_versions query ended) (now ++ back) shown
-          (IsPermutation-append_right now (shown_versions query ended) back turned) same);
-      sorted = in_order query.table shown sorted;
-    }
+-- what the query shows of all versions in memory, in order, is what it shows
+pub shown_of_memory : (c : Contents) (query : Stored) (all shown : List VersionRow) → IsPermutation (of_table query.table c.versions) (map (version_in query.table) all) →
+    IsPermutation (shown_versions query all) shown → IsSorted rows.version_cmp shown → AreShownIn c query shown
+shown_of_memory c query all shown memory same sorted versions stored = record {
+  all =
+      IsPermutation-trans (shown_versions query versions) (shown_versions query all) shown
+      (IsPermutation-filter (is_shown query) versions all (all_rows query.table c.versions versions all stored memory)) same;
+  sorted = in_order query.table shown sorted;
+}
+
+-- a version that the window does not see is not shown
+unseen_unshown : (a b : Bool) → a ≡ false → (a && b) ≡ false
+unseen_unshown false b unseen = refl
+unseen_unshown true b unseen = absurd (false≢true (sym unseen))
+
+-- a version that is not read is not shown, if each that is shown has its key in the range
+pub unread_unshown : (query : Stored) (access : Access) (positions : List ℕ) → access.window ≡ query.window → ((v : VersionRow) → is_shown query v ≡ true → has_key_in positions access.range v ≡ true) →
+    (v : VersionRow) → MayBeUnread access positions (λ (w : VersionRow). is_shown query w ≡ false) v → is_shown query v ≡ false
+unread_unshown query access positions same within v may = elim may [
+  | inl unseen ↦ unseen_unshown (window_sees query.window v.from v.to) (meets_tests query.condition v) (ap (λ (w : Window). window_sees w v.from v.to) (sym same) ∙ unseen)
+  | inr rest ↦ elim rest [
+    | inl outside ↦ by_test (is_shown query v) refl outside
+    | inr unshown ↦ unshown
+  ]
+]
+  where
+    by_test : (b : Bool) → is_shown query v ≡ b → has_key_in positions access.range v ≡ false → b ≡ false
+    by_test false shown outside = refl
+    by_test true shown outside = absurd (false≢true (sym outside ∙ within v shown))
+
+-- the versions that are read and shown are those that the query shows of all
+pub read_shown : (query : Stored) (access : Access) (positions : List ℕ) → access.window ≡ query.window → ((v : VersionRow) → is_shown query v ≡ true → has_key_in positions access.range v ≡ true) → (all some : List VersionRow) →
+    AreTaken (IsRead access (λ (v : VersionRow). is_shown query v ≡ true)) (MayBeUnread access positions (λ (v : VersionRow). is_shown query v ≡ false)) all some → some ≡ shown_versions query all
+read_shown query access positions same within all some read =
+    exactly_taken (IsRead access (λ (v : VersionRow). is_shown query v ≡ true)) (MayBeUnread access positions (λ (v : VersionRow). is_shown query v ≡ false)) (is_shown query)
+    (λ v is. is.1) (unread_unshown query access positions same within) read

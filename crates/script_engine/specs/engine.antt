@@ -7,6 +7,7 @@ pub mod Moved
 pub mod Planned
 pub mod VersionLists
 pub mod Answering
+pub mod Reading
 pub mod Needed
 pub mod Runs
 pub mod Healthy

@@ -1,40 +1,16 @@
 -- The rows that a query needs of those that its table references see: enough that it gives the
 -- same.
-use Rattle.std.specs.Prelude.{◌≡◌, ◌++◌, ◌+◌, ℕ, ℤ, Bool, Contains, IsTrue, List, [], ◌∷◌, length}
-use Rattle.std.specs.Prelude.{map, true}
-use Rattle.std.specs.Option.{option_map_or}
+use Rattle.std.specs.Prelude.{◌≡◌, ◌++◌, ◌+◌, ℕ, ℤ, IsTrue, List, [], ◌∷◌, length}
 use Rattle.period_core.specs.declared.row.PeriodRow.{PeriodRow}
 use Rattle.period_core.specs.declared.value.Value.{Value}
-use Rattle.period_core.specs.declared.version.VersionRow.{VersionRow}
-use Rattle.period_keys.specs.declared.key_range.KeyRange.{KeyRange}
-use Rattle.period_keys.specs.Rows.{RowsByKey, rows_within}
 use Rattle.sql_statements.specs.declared.tree.Tree.{Tree}
 use Rattle.catalog_core.specs.declared.condition.CompareValues.{CompareValues}
 use Rattle.catalog_core.specs.declared.query.resolved.QueryReference.{QueryReference}
 use Rattle.catalog_core.specs.query.Queries.{Query, both, one}
-use Rattle.catalog_core.specs.table.TableWords.{table_of}
 use Rattle.history_model.specs.Histories.{History}
 use Rattle.history_model.specs.OrdinaryQuery.{VisibleInHistory, meets_all}
-use Rattle.history_model.specs.Versions.{row_of}
 use Rattle.sequenced_ops.specs.Planning.{IsPruned}
 use Rattle.temporal_model.specs.Snapshot.{InSnapshot}
-
--- the rows in memory whose keys are in the range, of the table of a number; of a number without a
--- table none
-abbrev pub ranged_rows_in : List RowsByKey → ℕ → KeyRange → List VersionRow
-ranged_rows_in tables number range =
-    option_map_or (λ (t : RowsByKey). rows_within t range) (table_of tables number) []
-
--- some versions are among all, and lack none that passes the test
-pub record LackNone (test : VersionRow → Bool) (all some : List VersionRow) : Type 0 where
-  pub within : (v : VersionRow) → Contains some v → Contains all v
-  pub whole : (v : VersionRow) → test v ≡ true → Contains all v → Contains some v
-
--- the new rows are the old ones, followed by the rows of versions that lack none
-abbrev pub AddLackingNone
-    : (VersionRow → Bool) → List VersionRow → List PeriodRow → List PeriodRow → Type 0
-AddLackingNone test all old new =
-    (some : List VersionRow) × LackNone test all some × (new ≡ old ++ map row_of some)
 
 -- all that the reference sees in the history has `width` values
 abbrev pub SeesWidth : History → QueryReference → ℕ → Type 0

@@ -1,12 +1,18 @@
-//! Ended versions, chained by their keys before a query that may look for them by key. Chaining is
-//! lazy: a change never pays for it.
+//! Ended versions, chained by their keys before those of one key are read. Chaining is lazy: a
+//! change never pays for it.
 
-ghost use Rattle.std.specs.Prelude.{◌≡◌};
+ghost use Rattle.std.specs.Prelude.{◌≡◌, List, OnOk, map};
+ghost use Rattle.ended_versions.specs.Packed.{Hold};
+ghost use Rattle.period_core.specs.declared.version.VersionRow.{VersionRow as Version};
+ghost use Rattle.period_keys.specs.Current.{rows_by_key};
+ghost use Rattle.script_engine.specs.engine.Ended.{ended_in};
+ghost use Rattle.script_engine.specs.engine.Reading.{AddRead, positions_in, versions_in};
 
-use catalog_core::Stored;
-use catalog_core::resolved::{Query, QueryReference};
+use crate::engine::indexed::positions_of_number;
+use crate::engine::reading::{Access, Selection, read};
 use ended_versions::EndedVersions;
-use period_core::{Memory, Window};
+use period_core::Memory;
+use period_keys::TableIndex;
 use std::alloc::Global;
 
 /// Chains the versions of the table of a number that have ended. Which they are stays the same.
@@ -22,53 +28,29 @@ fn chain_table(alloc: Global, ended: &mut Vec<EndedVersions>, number: u8) -> Res
     }
 }
 
-/// Chains the ended versions of the tables of the references; not for references without a
-/// window.
-fn chain_references(
+/// Adds the rows of the versions that an access leaves and a selection takes, of those in memory.
+/// If it is to the ended versions of one key, those of the table are chained first: they stay the
+/// same.
+pub fn read_chained<S: Selection>(
     alloc: Global,
+    tables: &[TableIndex],
     ended: &mut Vec<EndedVersions>,
-    references: &[QueryReference],
+    access: &Access,
+    selection: &S,
+    rows: &mut Vec<S::Row>,
 ) -> Result<(), Memory>
-    ensures { ended.new.items ≡ ended.old.items }
+    ensures read { (versions : List Version)
+        → Hold (ended_in ended.old.items access.now.table) versions
+        → OnOk result (AddRead access.now
+        (positions_in (map rows_by_key tables.now) access.now.table)
+        (S.IsTaken selection.now) (S.MayLack selection.now) S.made
+        (versions_in (map rows_by_key tables.now) access.now.table versions)
+        rows.old.items rows.new.items) }
+    ensures same { ended.new.items ≡ ended.old.items }
 {
-    for reference in references {
-        if reference.window != Window::Now {
-            chain_table(alloc, ended, reference.table)?;
-        }
+    let positions = positions_of_number(tables, access.table);
+    if access.ended_key(positions).is_some() {
+        chain_table(alloc, ended, access.table)?;
     }
-    Ok(())
-}
-
-/// Chains the ended versions of the tables that a sequenced query sees in the past, in each select
-/// with conditions: without conditions no key is fixed.
-pub fn chain_sequenced(
-    alloc: Global,
-    ended: &mut Vec<EndedVersions>,
-    query: &Query,
-) -> Result<(), Memory>
-    ensures { ended.new.items ≡ ended.old.items }
-{
-    match query {
-        Query::Select(select) if select.conjuncts.as_slice().is_empty() => Ok(()),
-        Query::Select(select) => chain_references(alloc, ended, select.references.as_slice()),
-        Query::Combined(_, left, right) => {
-            chain_sequenced(alloc, ended, left)?;
-            chain_sequenced(alloc, ended, right)
-        }
-    }
-}
-
-/// Chains the ended versions of the table of a stored query, if it sees the past and has a
-/// condition.
-pub fn chain_stored(
-    alloc: Global,
-    ended: &mut Vec<EndedVersions>,
-    query: &Stored,
-) -> Result<(), Memory>
-    ensures { ended.new.items ≡ ended.old.items }
-{
-    if query.window == Window::Now || query.condition.is_none() {
-        return Ok(());
-    }
-    chain_table(alloc, ended, query.table)
+    read(alloc, tables, ended.as_slice(), access, selection, rows)
 }

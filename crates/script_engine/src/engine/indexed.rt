@@ -25,6 +25,7 @@ ghost use Rattle.version_store.specs.StoreState.{StaysOnErr, StoreRepresents};
 ghost use Rattle.script_engine.specs.engine.Ended.{AllEndedBy, HaveEnded};
 ghost use Rattle.script_engine.specs.engine.Faults.{AreConstrained};
 ghost use Rattle.script_engine.specs.engine.InMemory.{AreReadOf, FollowCatalog, HaveCurrentRows};
+ghost use Rattle.script_engine.specs.engine.Reading.{positions_in};
 ghost use Rattle.script_engine.specs.engine.Stored.{WasUsable};
 
 use crate::engine::in_memory::load;
@@ -47,10 +48,10 @@ pub fn rows_of_number(tables: &[TableIndex], number: u8) -> Option<&CurrentRows>
     }
 }
 
-/// The positions of its key among a row's values.
+/// The positions of the key among the values of a row of the table of a number. If no table has it,
+/// none.
 pub fn positions_of_number(tables: &[TableIndex], number: u8) -> &[usize]
-    ensures { (rows : RowsByKey) → table_of (map rows_by_key tables.now) number ≡ Some rows
-        → result.now ≡ rows.positions }
+    ensures { result.now ≡ positions_in (map rows_by_key tables.now) number }
 {
     match rows_of_number(tables, number) {
         Some(rows) => rows.positions(),

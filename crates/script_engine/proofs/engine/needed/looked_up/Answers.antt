@@ -1,35 +1,62 @@
-use Rattle.std.proofs.Common.{◌≡◌, ◌∙◌, ℤ, List, map, subst, sym}
-use Rattle.std.specs.Prelude.{Contains, Err, IfOk, IfSome, None, Ok, Option, Result, Some, length}
-use Rattle.history_model.specs.Versions.{row_of}
+use Rattle.std.proofs.Common.{◌≡◌, ◌+◌, ◌++◌, ◌∷◌, ◌∙◌, [], List, ap, map, refl, subst, sym, take}
+use Rattle.std.proofs.lemmas.List.{take_all, take_more}
+use Rattle.history_model.specs.OrdinaryQuery.{VisibleInHistory}
+use Rattle.period_core.specs.declared.row.PeriodRow.{PeriodRow}
 use Rattle.period_core.specs.declared.value.Value.{Value}
-use Rattle.period_core.specs.declared.version.VersionRow.{VersionRow}
 use Rattle.period_keys.specs.Current.{rows_by_key}
+use Rattle.period_keys.specs.FixedKeys.{IsRangeAfter}
 use Rattle.script_engine.specs.engine.Needed.{EndInRow, IsPrunedAfter}
-use Rattle.script_engine.proofs.InMemory.{some_rows}
-use Rattle.script_engine.proofs.Needed.{IsWidth, current_looked_up, current_width}
-use Rattle.temporal_model.specs.Snapshot.{InSnapshot}
+use Rattle.script_engine.specs.engine.Reading.{positions_in}
+use Rattle.script_engine.specs.engine.Stored.{RowsRepresent}
+use Rattle.script_engine.proofs.Needed.{looked_up_alike}
+use Rattle.script_engine.proofs.Read.{its_read, read_after, read_after_none}
 use Rattle.script_engine.proofs.engine.needed.looked_up.Goals as goal
 
--- a weaker fact holds of what was found too
-if_found : {X E : Type 0} (r : Result (Option X) E) (P Q : X → Type 0) → ((x : X) → P x → Q x) → IfOk r (λ found. IfSome found P) → IfOk r (λ found. IfSome found Q)
-if_found (Ok (Some x)) P Q f h = f x h
-if_found (Ok None) P Q f h = h
-if_found (Err e) P Q f h = h
+pub loop-row-init : goal.loop-row-init
+loop-row-init c = record {
+  same = refl;
+  needed = λ history represents wide.
+      subst (IsPrunedAfter (EndInRow []) c.args.conditions.now.conjuncts.now c.args.conditions.now.start (λ day. VisibleInHistory history day c.args.reference.now)) (sym c.new-rows.ensures.items)
+      (read_after_none history c.args.conditions.now.conjuncts.now c.args.conditions.now.start c.args.reference.now);
+}
 
-pub returns-in-Some : goal.returns-in-Some
-returns-in-Some c =
+pub loop-row-preserved : goal.loop-row-preserved
+loop-row-preserved c =
+    let conjuncts = c.args.conditions.now.conjuncts.now in
+    let start = c.args.conditions.now.start in
+    let width = c.args.width in
     let reference = c.args.reference.now in
-    let conjuncts = c.args.conjuncts.now in
-    let start = c.args.start in
     let tables = map rows_by_key c.args.tables.now in
-    let width = c.width_of_number-width.result in
-    let StandBefore : ℤ → List Value → Type 0 = EndInRow c.args.previous.now in
-    let there = some_rows tables reference.table c.in-Some.current.now c.in-Some.ensures in
-    if_found c.needed_after.result
-    (λ rows. ((version : VersionRow) → Contains c.in-Some.current.now.rows version → length version.values ≡ width) → IsPrunedAfter StandBefore conjuncts start (InSnapshot (map row_of c.in-Some.current.now.rows)) rows.items) _
-    (λ rows pruned history ended same kept.
-    let d = kept.contents in
-    let wide : IsWidth d.tables reference.table width = subst (λ known. IsWidth known reference.table width) (same ∙ sym kept.said.tables) c.width_of_number-width.ensures in
-    let its = subst (λ (versions : List VersionRow). ((version : VersionRow) → Contains versions version → length version.values ≡ width) → IsPrunedAfter StandBefore conjuncts start (InSnapshot (map row_of versions)) rows.items) (sym there) pruned in
-    current_looked_up StandBefore history d tables conjuncts start reference rows.items kept.said kept.current c.in-Now.is (its (current_width d reference.table width kept.said.good wide tables kept.current)))
-    c.needed_after.ensures
+    let previous : List PeriodRow = c.args.previous.now in
+    let i = c.loop-row.row-index in
+    let row : PeriodRow = c.row-item.result in
+    let access = c.of-access.result in
+    let lists = c.loop-row.ended.items in
+    let old : List PeriodRow = c.loop-row.rows.items in
+    let new : List PeriodRow = c.read_chained.new.rows.items in
+    let next : take (i + 1) previous ≡ take i previous ++ row ∷ [] =
+    take_more previous i row c.loop-row-test.true ∙ ap (λ (r : PeriodRow). take i previous ++ r ∷ []) (sym c.row-item.is) in
+    let within : IsRangeAfter conjuncts row.values start width (positions_in tables reference.table) access.range =
+    subst (λ range. IsRangeAfter conjuncts row.values start width (positions_in tables reference.table) range) (sym c.of-access.ensures.range)
+    (subst (λ positions. IsRangeAfter conjuncts row.values start width positions c.in_ok-range.range) c.positions_of_number-positions.ensures
+    (subst (λ (values : List Value). IsRangeAfter conjuncts values start width c.positions_of_number-positions.result.now c.in_ok-range.range) c.as_slice-known.ensures c.in_ok-range.ensures.within)) in
+    record {
+      same = c.read_chained.ensures.same ∙ c.loop-row.invariant.same;
+      needed = λ history represents wide.
+          let its : RowsRepresent history tables lists = subst (RowsRepresent history tables) (sym c.loop-row.invariant.same) represents in
+          let (some, read, made) = its_read history tables lists reference its access conjuncts start old new c.of-access.ensures.table c.in_ok-read_chained.ensures.read in
+          subst (λ (rows : List PeriodRow). IsPrunedAfter (EndInRow rows) conjuncts start (λ day. VisibleInHistory history day reference) new) (sym next)
+          (read_after history tables lists reference its conjuncts start width access (positions_in tables reference.table) some c.of-access.ensures.window read
+          (take i previous) row old new wide within made (c.loop-row.invariant.needed history represents wide));
+    }
+
+pub returns-clause-needed : goal.returns-clause-needed
+returns-clause-needed c = λ history represents wide.
+    let conjuncts = c.args.conditions.now.conjuncts.now in
+    let start = c.args.conditions.now.start in
+    let reference = c.args.reference.now in
+    let previous : List PeriodRow = c.args.previous.now in
+    let rows : List PeriodRow = c.loop-row.rows.items in
+    looked_up_alike (EndInRow previous) conjuncts start (λ day. VisibleInHistory history day reference) rows c.in_ok-once_each.field-0.items c.in_ok-once_each.ensures
+    (subst (λ (done : List PeriodRow). IsPrunedAfter (EndInRow done) conjuncts start (λ day. VisibleInHistory history day reference) rows) (take_all c.loop-row.row-index previous c.loop-row-test.false)
+    (c.loop-row.invariant.needed history represents wide))

@@ -1,46 +1,44 @@
-use Rattle.std.proofs.Common.{◌≡◌, ◌+◌, ◌++◌, ◌∷◌, ◌∙◌, [], ℕ, List, ap, subst, sym, take}
-use Rattle.std.proofs.lemmas.List.{take_all, take_more}
+use Rattle.std.proofs.Common.{◌≡◌, ◌∷◌, ◌++◌, [], List, map, subst, sym}
+use Rattle.history_model.specs.Histories.{History}
+use Rattle.history_model.specs.OrdinaryQuery.{VisibleInHistory}
 use Rattle.period_core.specs.declared.row.PeriodRow.{PeriodRow}
-use Rattle.period_core.specs.declared.value.Value.{Value}
-use Rattle.period_keys.specs.declared.key_range.KeyRange.{KeyRange}
-use Rattle.period_keys.specs.FixedKeys.{IsRangeAfter}
-use Rattle.sequenced_ops.proofs.KeptRows.{kept_all}
-use Rattle.script_engine.proofs.Needed.{AreLookedUp, looked_up_alike, looked_up_more, looked_up_none}
+use Rattle.period_keys.specs.Current.{rows_by_key}
+use Rattle.period_keys.proofs.PlanParts.{if_ok}
+use Rattle.script_engine.specs.engine.Needed.{EndInRow, IsNeeded, IsNeededAfter, IsPrunedAfter, SeesWidth}
+use Rattle.script_engine.specs.engine.Stored.{RowsRepresent}
+use Rattle.script_engine.proofs.Needed.{last_of, needed_after_last, needed_always}
 use Rattle.script_engine.proofs.engine.needed.needed_after.Goals as goal
 
-pub loop-row-init : goal.loop-row-init
-loop-row-init c widths =
-    subst (AreLookedUp c.args.conjuncts.now c.args.start c.args.width c.args.current.now []) (sym c.new-needed.ensures.items)
-    (looked_up_none c.args.conjuncts.now c.args.start c.args.width c.args.current.now)
+pub returns-in_default-clause-needed : goal.returns-in_default-clause-needed
+returns-in_default-clause-needed c =
+    let conjuncts = c.args.conditions.now.conjuncts.now in
+    let start = c.args.conditions.now.start in
+    let reference = c.args.reference.now in
+    if_ok c.needed_by.result
+    (λ rows. (history : History) → RowsRepresent history (map rows_by_key c.args.tables.now) c.args.ended.now.items → SeesWidth history reference c.args.width → IsNeeded history conjuncts start reference rows.items) _
+    (λ rows needs history represents wide. needed_always history c.args.earlier.now conjuncts start reference rows.items (needs history represents wide)) c.needed_by.ensures.needed
 
-pub loop-row-preserved : goal.loop-row-preserved
-loop-row-preserved c widths =
-    let conjuncts = c.args.conjuncts.now in
-    let start = c.args.start in
-    let width = c.args.width in
-    let current = c.args.current.now in
-    let previous : List PeriodRow = c.args.previous.now in
-    let i = c.loop-row.row-index in
-    let row : PeriodRow = c.row-item.result in
-    let range : KeyRange = c.in_ok-range.range in
-    let old : List PeriodRow = c.loop-row.needed.items in
-    let new : List PeriodRow = c.push_needed_within.new.needed.items in
-    let next : take (i + 1) previous ≡ take i previous ++ row ∷ [] =
-    take_more previous i row c.loop-row-test.true ∙ ap (λ (r : PeriodRow). take i previous ++ r ∷ []) (sym c.row-item.is) in
-    let within : IsRangeAfter conjuncts row.values start width current.positions range =
-    subst (λ (ps : List ℕ). IsRangeAfter conjuncts row.values start width ps range) c.positions-positions.ensures
-    (subst (λ (vs : List Value). IsRangeAfter conjuncts vs start width c.positions-positions.result.now range) c.as_slice-known.ensures c.in_ok-range.ensures.within) in
-    subst (λ (rows : List PeriodRow). AreLookedUp conjuncts start width current rows new) (sym next)
-    (looked_up_more conjuncts start width current range (take i previous) row old new within widths
-    (c.in_ok-push_needed_within.ensures old (kept_all conjuncts start old)) (c.loop-row.invariant widths))
+pub returns-in-Some-found-clause-needed : goal.returns-in-Some-found-clause-needed
+returns-in-Some-found-clause-needed c = λ history represents wide.
+    let conjuncts = c.args.conditions.now.conjuncts.now in
+    let start = c.args.conditions.now.start in
+    let reference = c.args.reference.now in
+    let earlier : List (List PeriodRow) = c.args.earlier.now in
+    let previous : List PeriodRow = c.in-Some.last.now in
+    let rows : List PeriodRow = c.in-Some-found.rows.items in
+    let (front, split) = last_of earlier previous (sym c.in-Some.ensures.value) in
+    let found = (rw c.in-Some-found.is at c.in_ok-found.ensures.needed) history represents wide in
+    let pruned : IsPrunedAfter (EndInRow previous) conjuncts start (λ day. VisibleInHistory history day reference) rows =
+    subst (λ (known : List PeriodRow). IsPrunedAfter (EndInRow known) conjuncts start (λ day. VisibleInHistory history day reference) rows) c.as_slice-previous.ensures found in
+    subst (λ (lists : List (List PeriodRow)). IsNeededAfter history lists conjuncts start reference rows) (sym split)
+    (needed_after_last history front previous conjuncts start reference rows pruned)
 
-pub returns : goal.returns
-returns c widths =
-    let conjuncts = c.args.conjuncts.now in
-    let start = c.args.start in
-    let width = c.args.width in
-    let current = c.args.current.now in
-    let previous : List PeriodRow = c.args.previous.now in
-    let needed : List PeriodRow = c.loop-row.needed.items in
-    looked_up_alike conjuncts start width current previous needed c.in_ok-once_each.field-0.items c.in_ok-once_each.ensures
-    (subst (λ (rows : List PeriodRow). AreLookedUp conjuncts start width current rows needed) (take_all c.loop-row.row-index previous c.loop-row-test.false) (c.loop-row.invariant widths))
+pub returns-in-None-clause-needed : goal.returns-in-None-clause-needed
+returns-in-None-clause-needed c =
+    let conjuncts = c.args.conditions.now.conjuncts.now in
+    let start = c.args.conditions.now.start in
+    let reference = c.args.reference.now in
+    let tables = map rows_by_key c.args.tables.now in
+    if_ok c.needed_by-in-None.result
+    (λ rows. (history : History) → RowsRepresent history tables c.looked_up.new.ended.items → SeesWidth history reference c.args.width → IsNeeded history conjuncts start reference rows.items) _
+    (λ rows needs history represents wide. needed_always history c.args.earlier.now conjuncts start reference rows.items (needs history (subst (RowsRepresent history tables) (sym c.looked_up.ensures.same) represents) wide)) c.needed_by-in-None.ensures.needed

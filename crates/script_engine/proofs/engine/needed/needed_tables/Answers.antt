@@ -4,8 +4,8 @@ use Rattle.catalog_core.specs.query.Queries.{plain_query}
 use Rattle.script_engine.specs.engine.Needed.{IsNeededBy}
 use Rattle.script_engine.proofs.engine.needed.needed_tables.Goals as goal
 
-pub returns : goal.returns
-returns c history same kept =
-    let (added, made, needed) = c.in_ok-push_needed_tables.ensures history same kept in
+pub returns-clause-needed : goal.returns-clause-needed
+returns-clause-needed c history same represents =
+    let (added, made, needed) = c.in_ok-push_needed_tables.ensures.needed history same represents in
     let all : c.new.result ≡ added = c.new.ensures ∙ c.from_vec.ensures ∙ made ∙ ap (λ (l : List (List PeriodRow)). l ++ added) c.new-lists.ensures.items in
     subst (IsNeededBy history (plain_query c.args.query.now)) (sym all) needed

@@ -1,24 +1,23 @@
-use Rattle.std.proofs.Common.{◌≡◌, ◌++◌, ◌∙◌, List, ap, map, reverse, subst, sym}
-use Rattle.ended_versions.specs.Packed.{seen_through}
+use Rattle.std.proofs.Common.{◌≡◌, ◌++◌, ◌∙◌, [], List, ap, map, subst, sym, true}
 use Rattle.history_model.specs.Versions.{row_of}
 use Rattle.period_core.specs.declared.row.PeriodRow.{PeriodRow}
+use Rattle.period_core.specs.declared.value.Value.{Value}
 use Rattle.period_keys.specs.Current.{rows_by_key}
-use Rattle.script_engine.specs.engine.Answering.{AreRowsSeen}
-use Rattle.script_engine.specs.engine.Ended.{ended_in}
-use Rattle.script_engine.specs.engine.InMemory.{rows_in}
-use Rattle.script_engine.proofs.Seen.{memory_seen, sees_rows}
+use Rattle.period_keys.specs.Ranges.{is_in_range}
+use Rattle.period_keys.specs.declared.key_range.KeyRange.{KeyRange}
+use Rattle.script_engine.specs.engine.Answering.{SeesRows}
+use Rattle.script_engine.specs.engine.Reading.{positions_in}
+use Rattle.script_engine.proofs.Read.{all_read, its_read}
 use Rattle.script_engine.proofs.engine.sequenced_queries.seen_by.Goals as goal
 
 pub returns : goal.returns
-returns c = λ history kept.
+returns c = λ history represents.
     let reference = c.args.reference.now in
     let tables = map rows_by_key c.args.tables.now in
-    let first : List PeriodRow = map row_of (seen_through reference.window (rows_in tables reference.table)) in
-    let ended = kept.ended reference.table in
-    let second : List PeriodRow = map row_of (reverse (seen_through reference.window ended.versions)) in
-    let rows : List PeriodRow = c.push_ended_of.new.rows.items in
-    let made : rows ≡ first ++ second =
-    c.in_ok-push_ended_of.ensures ended.versions ended.held ∙ ap (λ (l : List PeriodRow). l ++ second) (c.in_ok-push_current_of.ensures ∙ ap (λ (l : List PeriodRow). l ++ first) c.new-rows.ensures.items) in
-    sees_rows history kept.contents reference c.from_vec.result kept.said
-    (subst (AreRowsSeen kept.contents reference.table reference.window) (sym c.from_vec.ensures)
-    (memory_seen kept.contents tables reference.table (ended_in c.args.ended.now reference.table) reference.window rows kept.current ended made))
+    let lists = c.args.ended.now in
+    let access = c.of-access.result in
+    let new : List PeriodRow = c.read.new.rows.items in
+    let (some, read, made) = its_read history tables lists reference represents access [] 0 c.new-rows.result.items new c.of-access.ensures.table c.in_ok-read.ensures in
+    let whole : (key : List Value) → is_in_range access.range key ≡ true = λ key. subst (λ (range : KeyRange). is_in_range range key ≡ true) (sym c.of-access.ensures.range) (c.all.ensures key) in
+    subst (SeesRows history reference) (sym (c.from_vec.ensures ∙ made ∙ ap (λ (rows : List PeriodRow). rows ++ map row_of some) c.new-rows.ensures.items))
+    (all_read history tables lists reference represents access (positions_in tables reference.table) some c.of-access.ensures.window whole read)

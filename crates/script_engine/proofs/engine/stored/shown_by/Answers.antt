@@ -1,25 +1,33 @@
-use Rattle.std.proofs.Common.{◌≡◌, ◌++◌, ◌∙◌, List, ap, map, reverse, rules, subst, sym}
+use Rattle.std.proofs.Common.{◌≡◌, ◌++◌, ◌∙◌, ℕ, List, ap, map, refl, rules, subst, true}
+use Rattle.std.proofs.lemmas.List.{map-id}
 use Rattle.std.specs.List.Sorted.{IsPermutation}
-use Rattle.catalog_core.specs.stored.StoredAnswers.{shown_versions}
-use Rattle.ended_versions.specs.Packed.{PackedVersion, seen_through}
+use Rattle.catalog_core.specs.stored.StoredAnswers.{is_shown, shown_versions}
 use Rattle.period_core.specs.declared.version.VersionRow.{VersionRow}
 use Rattle.period_keys.specs.Current.{rows_by_key}
-use Rattle.script_engine.specs.engine.Ended.{HasEnded, HaveEnded, ended_in}
-use Rattle.script_engine.specs.engine.InMemory.{rows_in}
+use Rattle.period_keys.specs.Versions.{has_key_in}
+use Rattle.period_keys.specs.declared.key_range.KeyRange.{KeyRange}
+use Rattle.script_engine.specs.declared.engine.reading.Access.{Access}
+use Rattle.script_engine.specs.engine.Ended.{HasEnded, ended_in}
+use Rattle.script_engine.specs.engine.Reading.{positions_in, versions_in}
 use Rattle.script_engine.proofs.Seen.{all_in_memory}
-use Rattle.script_engine.proofs.StoredShown.{shown_of_memory}
+use Rattle.script_engine.proofs.StoredShown.{read_shown, shown_of_memory}
 use Rattle.script_engine.proofs.engine.stored.shown_by.Goals as goal
 
 pub returns-clause-right : goal.returns-clause-right
 returns-clause-right c = λ d current closed.
-    let past : List (List PackedVersion) = c.as_slice.result.now in
-    let same : past ≡ c.args.ended.now.items = c.as_slice.ensures.value ∙ c.chain_stored.ensures in
     let query = c.args.query.now in
+    let number = query.table in
     let tables = map rows_by_key c.args.tables.now in
-    let now : List VersionRow = rows_in tables query.table in
-    let ended : HasEnded d query.table (ended_in past query.table) = subst (HaveEnded d) (sym same) closed query.table in
-    let made : c.push_ended_of.new.shown.items ≡ shown_versions query now ++ shown_versions query (reverse (seen_through query.window ended.versions)) =
-    c.in_ok-push_ended_of.ensures ended.versions ended.held ∙ ap (λ (l : List VersionRow). l ++ shown_versions query (reverse (seen_through query.window ended.versions))) c.in_ok-shown.ensures in
-    shown_of_memory d query now ended.versions c.sort.new.self.items
-    (all_in_memory d tables query.table (ended_in past query.table) current ended)
-    (subst (λ (l : List VersionRow). IsPermutation l c.sort.new.self.items) made (search rules)) (search rules)
+    let ended : HasEnded d number (ended_in c.args.ended.now.items number) = closed number in
+    let all : List VersionRow = versions_in tables number ended.versions in
+    let (some, read, made) = c.in_ok-read_chained.ensures.read ended.versions ended.held in
+    let shown : List VersionRow = c.read_chained.new.rows.items in
+    let range : KeyRange = c.in_ok-range.range in
+    let positions : List ℕ = positions_in tables number in
+    let access : Access = record { window = query.window; table = number; range = range } in
+    let within : (v : VersionRow) → is_shown query v ≡ true → has_key_in positions range v ≡ true =
+    subst (λ (ps : List ℕ). (v : VersionRow) → is_shown query v ≡ true → has_key_in ps range v ≡ true) c.positions_of_number-positions.ensures c.in_ok-range.ensures in
+    let same : shown ≡ shown_versions query all =
+    made ∙ ap (λ (l : List VersionRow). l ++ map (λ (v : VersionRow). v) some) c.new-shown.ensures.items ∙ map-id some ∙ read_shown query access positions refl within all some read in
+    shown_of_memory d query all c.sort.new.self.items (all_in_memory d tables number (ended_in c.args.ended.now.items number) current ended)
+    (subst (λ (l : List VersionRow). IsPermutation l c.sort.new.self.items) same (search rules)) (search rules)

@@ -1,0 +1,250 @@
+//! Versions read from memory: of a table's current versions, and of those that have ended, the ones
+//! that a window sees and whose keys are in a range. A selection takes some, and makes a row of
+//! each.
+
+ghost use Rattle.std.specs.Prelude.{◌≡◌, ℕ, IfOk, IfSome, List, OnOk, false, map};
+ghost use Rattle.std.specs.Prelude.{reverse, true};
+ghost use Rattle.ended_versions.specs.Packed.{Hold};
+ghost use Rattle.period_core.specs.declared.version.VersionRow.{VersionRow as Version};
+ghost use Rattle.period_keys.specs.Current.{rows_by_key};
+ghost use Rattle.period_keys.specs.Versions.{has_key_in, version_key};
+ghost use Rattle.script_engine.specs.engine.Ended.{ended_in};
+ghost use Rattle.script_engine.specs.engine.InMemory.{rows_in};
+ghost use Rattle.script_engine.specs.engine.Reading.{AddRead, AreTaken, IsRead, MayBeUnread};
+ghost use Rattle.script_engine.specs.engine.Reading.{positions_in, versions_in};
+
+use crate::engine::indexed::{positions_of_number, rows_of_number};
+use catalog_core::of_number;
+use catalog_core::resolved::QueryReference;
+use ended_versions::EndedVersions;
+use period_core::{Memory, Value, VersionRow, Window};
+use period_keys::{CurrentRows, KeyRange, TableIndex};
+use std::alloc::Global;
+
+/// The versions of a table that a reference of a query has to read, as its conditions say: of those
+/// that a window sees, the ones whose keys are in a range.
+#[derive(Drop)]
+pub struct Access {
+    /// The window.
+    pub window: Window,
+    /// The table's number. If no table has it, there are no versions.
+    pub table: u8,
+    /// The range of keys.
+    pub range: KeyRange,
+}
+
+impl Access {
+    /// Of the table and the window of a reference.
+    pub fn of(reference: &QueryReference, range: KeyRange) -> Access
+        ensures window { result.window ≡ reference.now.window }
+        ensures table { result.table ≡ reference.now.table }
+        ensures range { result.range ≡ range }
+    {
+        Access {
+            window: reference.window,
+            table: reference.table,
+            range,
+        }
+    }
+
+    /// The key at these positions, if the ended versions of one key alone have to be read. None if
+    /// the window sees the current versions alone.
+    pub fn ended_key(&self, positions: &[usize]) -> Option<&[Value]>
+        ensures { IfSome result (λ key. (version : Version)
+            → has_key_in positions.now self.now.range version ≡ true
+            → version_key positions.now version ≡ key.now) }
+    {
+        match self.window {
+            Window::Now => None,
+            _ => self.range.whole_key(positions),
+        }
+    }
+}
+
+/// A choice of versions, of those that an access leaves, and the row that is made of each.
+pub trait Selection {
+    ghost use Rattle.period_core.specs.declared.version.VersionRow.{VersionRow as Version};
+
+    /// A row that is made of a version.
+    type Row: Drop;
+
+    /// The row of a version.
+    ghost made: { Version → Self.Row };
+
+    /// A fact of each version that is taken.
+    ghost IsTaken: { Self → Version → Type 0 };
+
+    /// A fact of each version that is left out.
+    ghost MayLack: { Self → Version → Type 0 };
+
+    /// Whether the version is taken.
+    fn takes(&self, version: &VersionRow) -> bool
+        ensures taken { result ≡ true → IsTaken self.now version.now }
+        ensures left { result ≡ false → MayLack self.now version.now };
+
+    /// A row with a copy of the version's values.
+    fn copied(alloc: Global, version: &VersionRow) -> Result<Self::Row, Memory>
+        ensures { IfOk result (λ row. row ≡ made version.now) };
+
+    /// A row with the version's values.
+    fn moved(version: VersionRow) -> Self::Row
+        ensures { result ≡ made version };
+}
+
+// ---- current versions
+
+/// Whether the window sees the version, and the selection takes it.
+fn is_read<S: Selection>(access: &Access, selection: &S, version: &VersionRow) -> bool
+    ensures read { result ≡ true → IsRead access.now (S.IsTaken selection.now) version.now }
+    ensures unread { result ≡ false → (positions : List ℕ)
+        → MayBeUnread access.now positions (S.MayLack selection.now) version.now }
+{
+    access.window.sees(version.from, version.to) && selection.takes(version)
+}
+
+/// Adds the rows of some of these versions: no values are copied but theirs.
+fn read_versions<S: Selection>(
+    alloc: Global,
+    access: &Access,
+    selection: &S,
+    versions: &[VersionRow],
+    rows: &mut Vec<S::Row>,
+) -> Result<(), Memory>
+    ensures { (positions : List ℕ) → OnOk result (AddRead access.now positions
+        (S.IsTaken selection.now) (S.MayLack selection.now) S.made
+        versions.now rows.old.items rows.new.items) }
+{
+    for version in versions {
+        if is_read(access, selection, version) {
+            rows.push(S::copied(alloc, version)?)?;
+        }
+    }
+    Ok(())
+}
+
+/// Adds the rows of the current versions of all keys.
+fn read_all<S: Selection>(
+    alloc: Global,
+    access: &Access,
+    selection: &S,
+    current: &CurrentRows,
+    rows: &mut Vec<S::Row>,
+) -> Result<(), Memory>
+    ensures { OnOk result (AddRead access.now current.now.positions
+        (S.IsTaken selection.now) (S.MayLack selection.now) S.made
+        current.now.rows rows.old.items rows.new.items) }
+{
+    for group in current.groups() {
+        read_versions(alloc, access, selection, group.as_slice(), rows)?;
+    }
+    Ok(())
+}
+
+/// Adds the rows of the current versions of the keys in the range: no other key is looked at.
+fn read_within<S: Selection>(
+    alloc: Global,
+    access: &Access,
+    selection: &S,
+    current: &CurrentRows,
+    rows: &mut Vec<S::Row>,
+) -> Result<(), Memory>
+    ensures { OnOk result (AddRead access.now current.now.positions
+        (S.IsTaken selection.now) (S.MayLack selection.now) S.made
+        current.now.rows rows.old.items rows.new.items) }
+{
+    for group in current.groups_within(alloc, &access.range)? {
+        read_versions(alloc, access, selection, group.as_slice(), rows)?;
+    }
+    Ok(())
+}
+
+/// Adds the rows of the current versions.
+fn read_current<S: Selection>(
+    alloc: Global,
+    tables: &[TableIndex],
+    access: &Access,
+    selection: &S,
+    rows: &mut Vec<S::Row>,
+) -> Result<(), Memory>
+    ensures { OnOk result (AddRead access.now
+        (positions_in (map rows_by_key tables.now) access.now.table)
+        (S.IsTaken selection.now) (S.MayLack selection.now) S.made
+        (rows_in (map rows_by_key tables.now) access.now.table) rows.old.items rows.new.items) }
+{
+    let Some(current) = rows_of_number(tables, access.table) else {
+        return Ok(());
+    };
+    if access.range.is_all() {
+        return read_all(alloc, access, selection, current, rows);
+    }
+    read_within(alloc, access, selection, current, rows)
+}
+
+// ---- ended versions
+
+/// The versions of a list that the window sees, the last to end first, without some whose keys are
+/// not in the range.
+fn ended_seen(
+    alloc: Global,
+    access: &Access,
+    positions: &[usize],
+    list: &EndedVersions,
+) -> Result<Vec<VersionRow>, Memory>
+    ensures { (versions : List Version) → Hold list.now versions → IfOk result (λ seen. AreTaken
+        (IsRead access.now (λ version. Unit {0}))
+        (MayBeUnread access.now positions.now (λ version. ⊥)) (reverse versions) seen.items) }
+{
+    match access.ended_key(positions) {
+        Some(key) => list.seen_of_key(alloc, access.window, positions, key),
+        None => list.seen(alloc, access.window),
+    }
+}
+
+/// Adds the rows of the ended versions of a list.
+fn read_list<S: Selection>(
+    alloc: Global,
+    access: &Access,
+    selection: &S,
+    positions: &[usize],
+    list: &EndedVersions,
+    rows: &mut Vec<S::Row>,
+) -> Result<(), Memory>
+    ensures { (versions : List Version) → Hold list.now versions
+        → OnOk result (AddRead access.now positions.now
+        (S.IsTaken selection.now) (S.MayLack selection.now) S.made
+        (reverse versions) rows.old.items rows.new.items) }
+{
+    for version in ended_seen(alloc, access, positions, list)? {
+        if !selection.takes(&version) {
+            continue;
+        }
+        rows.push(S::moved(version))?;
+    }
+    Ok(())
+}
+
+// ---- both
+
+/// Adds the rows of the versions that an access leaves and a selection takes, of those in memory.
+pub fn read<S: Selection>(
+    alloc: Global,
+    tables: &[TableIndex],
+    ended: &[EndedVersions],
+    access: &Access,
+    selection: &S,
+    rows: &mut Vec<S::Row>,
+) -> Result<(), Memory>
+    ensures { (versions : List Version) → Hold (ended_in ended.now access.now.table) versions
+        → OnOk result (AddRead access.now
+        (positions_in (map rows_by_key tables.now) access.now.table)
+        (S.IsTaken selection.now) (S.MayLack selection.now) S.made
+        (versions_in (map rows_by_key tables.now) access.now.table versions)
+        rows.old.items rows.new.items) }
+{
+    read_current(alloc, tables, access, selection, rows)?;
+    let positions = positions_of_number(tables, access.table);
+    match of_number(ended, access.table) {
+        Some(list) => read_list(alloc, access, selection, positions, list, rows),
+        None => Ok(()),
+    }
+}
