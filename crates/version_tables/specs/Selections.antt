@@ -27,13 +27,13 @@ select_text Whole = whole_text
 select_text (EndingAt end) = ending_text
 select_text (Overlapping start end) = overlapping_text
 
--- its parameters
+-- the parameters of the query of selected versions
 abbrev pub select_given : ℕ → Selection → Row
 select_given table Whole = Int (pos table) ∷ []
 select_given table (EndingAt end) = Int (pos table) ∷ Int end ∷ []
 select_given table (Overlapping start end) = Int (pos table) ∷ Int start ∷ Int end ∷ []
 
--- a query of versions: of the selected ones of a table, in order, or of all of all tables
+-- a query of versions: the selected versions of a table, in order, or the versions of all tables
 pub data VersionQuery : Type 0 where
   OfTable : ℕ → Selection → VersionQuery
   OfAllTables : VersionQuery
@@ -43,7 +43,7 @@ abbrev pub query_text : VersionQuery → List ℕ
 query_text (OfTable table selection) = select_text selection
 query_text OfAllTables = version_rows_text
 
--- its parameters
+-- the parameters of the query
 abbrev pub query_given : VersionQuery → Row
 query_given (OfTable table selection) = select_given table selection
 query_given OfAllTables = []

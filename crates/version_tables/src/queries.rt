@@ -1,5 +1,5 @@
-//! The queries. Each is run outside a transaction. Those of versions give their rows in turn, every
-//! other one all its rows at once.
+//! The queries. Each is run outside a transaction. A query of versions gives its rows in turn,
+//! every other one all its rows at once.
 
 ghost use Rattle.std.specs.Prelude.{◌≡◌, List, [], false, map, IfOk, OnErr, OnOk};
 ghost use Rattle.std.specs.Prelude.{IsPermutation};
