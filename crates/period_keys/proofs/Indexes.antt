@@ -15,7 +15,7 @@ use Rattle.period_core.specs.declared.period.Period.{Period}
 use Rattle.period_core.specs.declared.row.PeriodRow.{PeriodRow}
 use Rattle.period_keys.specs.declared.keyed_periods.KeyedPeriods.{KeyedPeriods}
 use Rattle.period_keys.specs.Keys.{key_values}
-use Rattle.period_keys.specs.Index.{periods_at, has_key, periods_of_key, IsIndexOf}
+use Rattle.period_keys.specs.Index.{periods_at, has_key, periods_of_key, AreAtKeys, IsIndexOf}
 use Rattle.period_keys.proofs.Locality.{period_of, in_key, index_has}
 use Rattle.temporal_model.proofs.Rearranged.{IsPermutation-uncons, IsPermutation-filter}
 
@@ -69,10 +69,14 @@ index_step positions rows i row old new key below is key_is at so_far =
 pub index_same : (positions : List ℕ) (rows : List PeriodRow) (old new : KeyedPeriods) → ((other : List Value) → periods_at new other ≡ periods_at old other) → IsIndexOf positions rows old → IsIndexOf positions rows new
 index_same positions rows old new same is = λ key. subst (λ (xs : List Period). IsPermutation xs (periods_of_key positions rows key)) (sym (same key)) (is key)
 
-pub index_moved : (positions : List ℕ) (rows others : List PeriodRow) (index : KeyedPeriods) → IsPermutation rows others → IsIndexOf positions rows index → IsIndexOf positions others index
-index_moved positions rows others index moved is = λ key.
-    IsPermutation-trans (periods_at index key) (periods_of_key positions rows key) (periods_of_key positions others key) (is key)
+-- the periods at each key of rows are those of the rows in another order
+pub at_keys_moved : (positions : List ℕ) (rows others : List PeriodRow) (at : List Value → List Period) → IsPermutation rows others → AreAtKeys positions rows at → AreAtKeys positions others at
+at_keys_moved positions rows others at moved is = λ key.
+    IsPermutation-trans (at key) (periods_of_key positions rows key) (periods_of_key positions others key) (is key)
     (IsPermutation-map period_of (filter (has_key positions key) rows) (filter (has_key positions key) others) (IsPermutation-filter (has_key positions key) rows others moved))
+
+pub index_moved : (positions : List ℕ) (rows others : List PeriodRow) (index : KeyedPeriods) → IsPermutation rows others → IsIndexOf positions rows index → IsIndexOf positions others index
+index_moved positions rows others index moved is = at_keys_moved positions rows others (periods_at index) moved is
 
 -- the index after a row was taken out
 pub index_less : (positions : List ℕ) (row : PeriodRow) (rest : List PeriodRow) (old new : KeyedPeriods) (key : List Value) → key ≡ key_values positions row

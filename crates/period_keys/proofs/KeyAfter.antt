@@ -1,5 +1,5 @@
--- Values of rows of combined rows in which known values stand right before the row's own.
-use Rattle.std.proofs.Common.{◌≡◌, ◌∙◌, ◌<◌, ◌+◌, ◌++◌, ℕ, List, None, Option, Some, append_assoc, arith, inl, inr, length, length-append, refl, sym, ap}
+-- Values of rows of combined rows that have known values.
+use Rattle.std.proofs.Common.{◌≡◌, ◌∙◌, ◌<◌, ◌+◌, ◌++◌, ℕ, List, None, Option, Some, inl, inr, length, refl, sym, ap}
 use Rattle.std.specs.Borrow.{Bor}
 use Rattle.std.specs.Prelude.{MatchOption, slice_get}
 use Rattle.std.proofs.lemmas.Option.{slice_get_within}
@@ -12,28 +12,24 @@ use Rattle.period_keys.specs.FixedKeys.{AreSaidEqual, ComparesWithin, IsValueAft
 use Rattle.period_keys.proofs.EqualPlaces.{said_same}
 use Rattle.period_keys.proofs.Fixed.{at_place}
 
-module _ (conditions : List (code.Tree CompareValues)) (known : List Value) (start width position : ℕ) (value : Value) where
+module _ (conditions : List (code.Tree CompareValues)) (known : List Value) (at start width position : ℕ) (value : Value) where
   -- a literal that the value equals in each combined row
-  pub literal_holds : ComparesWithin conditions start width Equal position value → IsValueAfter conditions known start width position value
-  literal_holds compares first values rest long wide met =
-      both_equal (slice_get values position) (Some value) (compares (first ++ known) values rest long wide met)
+  pub literal_holds : ComparesWithin conditions start width Equal position value → IsValueAfter conditions known at start width position value
+  literal_holds compares first values rest long wide has met =
+      both_equal (slice_get values position) (Some value) (compares first values rest long wide met)
 
   -- a known value at a place that the conditions equate with the position's
-  pub known_holds : (before index place other : ℕ) → before + length known ≡ start → position < width → place ≡ start + position → AreSaidEqual conditions place other → before + index ≡ other → slice_get known index ≡ Some value
-      → IsValueAfter conditions known start width position value
-  known_holds before index place other begins inside at said there its first values rest long wide met =
-      let whole : List Value = (first ++ known) ++ (values ++ rest) in
-      let own : slice_get whole place ≡ slice_get values position = at_place (first ++ known) values rest start width position place long wide inside at in
-      let many : length (first ++ known) ≡ length first + length known = length-append first known in
-      let below : index < length known = slice_get_within known index value its in
-      let given : slice_get whole other ≡ slice_get known index =
-      ap (λ (row : List Value). slice_get row other) (append_assoc first known (values ++ rest))
-      ∙ at_place first known (values ++ rest) before (length known) index other (omega (arith, long, many, begins)) refl below (sym there) in
-      sym own ∙ sym (said_same conditions place other said whole met) ∙ given ∙ its
+  pub known_holds : (index place other : ℕ) → position < width → place ≡ start + position → AreSaidEqual conditions place other → at + index ≡ other → slice_get known index ≡ Some value → IsValueAfter conditions known at start width position value
+  known_holds index place other inside is said there its first values rest long wide (before, after, begins, whole) met =
+      let row : List Value = first ++ (values ++ rest) in
+      let own : slice_get row place ≡ slice_get values position = at_place first values rest start width position place long wide inside is in
+      let given : slice_get row other ≡ slice_get known index =
+      ap (λ (r : List Value). slice_get r other) (sym whole) ∙ at_place before known after at (length known) index other begins refl (slice_get_within known index value its) (sym there) in
+      sym own ∙ sym (said_same conditions place other said row met) ∙ given ∙ its
 
 -- a position of which no literal is said: all that is said of it is a known value
-pub or_known : (conditions : List (code.Tree CompareValues)) (known : List Value) (start width position : ℕ) → ((value : Value) → SaysWithin conditions start width Equal position value → ⊥)
-    → (found : Option (Bor Value)) → MatchOption found ((value : Value) → SaysKnown conditions known start width position value → ⊥) (λ value. SaysKnown conditions known start width position value.now)
-    → MatchOption found ((value : Value) → SaysAfter conditions known start width position value → ⊥) (λ value. SaysAfter conditions known start width position value.now)
-or_known conditions known start width position none None given = λ value says. elim says [ inl literal ↦ none value literal | inr its ↦ given value its ]
-or_known conditions known start width position none (Some value) given = inr given
+pub or_known : (conditions : List (code.Tree CompareValues)) (known : List Value) (at start width position : ℕ) → ((value : Value) → SaysWithin conditions start width Equal position value → ⊥)
+    → (found : Option (Bor Value)) → MatchOption found ((value : Value) → SaysKnown conditions known at start width position value → ⊥) (λ value. SaysKnown conditions known at start width position value.now)
+    → MatchOption found ((value : Value) → SaysAfter conditions known at start width position value → ⊥) (λ value. SaysAfter conditions known at start width position value.now)
+or_known conditions known at start width position none None given = λ value says. elim says [ inl literal ↦ none value literal | inr its ↦ given value its ]
+or_known conditions known at start width position none (Some value) given = inr given

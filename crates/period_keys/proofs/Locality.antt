@@ -75,7 +75,7 @@ clash_of_both positions rows others day =
     )
 
 -- the periods at a key are the periods of the rows of this key
-at_has : (positions : List ℕ) (rows : List PeriodRow) (at : List Value → List Period) → AreAtKeys positions rows at → (key : List Value) (period : Period)
+pub at_has : (positions : List ℕ) (rows : List PeriodRow) (at : List Value → List Period) → AreAtKeys positions rows at → (key : List Value) (period : Period)
     → (Contains (at key) period ↔ Contains (periods_of_key positions rows key) period)
 at_has positions rows at is key period = (
   λ c. Contains-permutation (at key) (periods_of_key positions rows key) period (is key) c,

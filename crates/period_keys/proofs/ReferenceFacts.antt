@@ -2,6 +2,8 @@
 use Rattle.std.proofs.Common.{◌≡◌, ◌⊎◌, ◌+◌, ◌<◌, ◌≤◌, ◌∙◌, ◌∷◌, [], ℕ, zero, suc, ℤ, List, Option, None, Some, ap, arith, get_or, inl, inr, length, map, refl, subst, sym}
 use Rattle.std.specs.List.{Contains, slice_get}
 use Rattle.std.proofs.lemmas.Option.{slice_get_read, slice_get_within}
+use Rattle.period_core.specs.declared.period.Period.{Period}
+use Rattle.period_core.specs.declared.value.Value.{Value}
 use Rattle.catalog_core.specs.table.TableWords.{table_of}
 use Rattle.catalog_core.specs.declared.change.Change.{Change}
 use Rattle.catalog_core.specs.declared.change.Plan.{Plan}
@@ -12,9 +14,8 @@ use Rattle.history_model.specs.Versions.{row_of}
 use Rattle.period_keys.specs.Current.{HoldCurrent, HoldsCurrent, IsIndexedBy, rows_by_key}
 use Rattle.period_keys.specs.Rows.{RowsByKey}
 use Rattle.period_keys.specs.Faults.{IsFaultBy, IsFaultOf, IsPlanned, IsPlannedIn}
-use Rattle.period_keys.specs.Index.{IsIndexOf, earlier}
+use Rattle.period_keys.specs.Index.{AreAtKeys, earlier}
 use Rattle.period_keys.specs.Positions.{positions_of_places}
-use Rattle.period_keys.specs.declared.keyed_periods.KeyedPeriods.{KeyedPeriods}
 use Rattle.period_keys.specs.Keys.{IsLeastOf}
 use Rattle.period_keys.specs.Lawful.{IsLawfulState, IsReferenceFault, LacksParentBy, Refers, state_after}
 use Rattle.period_keys.specs.TableRows.{TableRows}
@@ -144,8 +145,8 @@ pub indexed_as : (tables : List TableRows) (number other : ℕ) (positions worke
 indexed_as tables number other positions worked indexed same is =
     subst (λ (n : ℕ). IsIndexedBy tables n worked) (sym same) (subst (IsIndexedBy tables number) (sym is) indexed)
 
--- an index that was looked up by its positions
-pub index_as : (tables : List TableRows) (number other : ℕ) (positions worked : List ℕ) (index : KeyedPeriods) (table : TableRows) → other ≡ number → worked ≡ positions → table_of tables number ≡ Some table
-    → ((t : TableRows) → table_of tables other ≡ Some t → IsIndexOf worked (map row_of t.rows) index) → IsIndexOf positions (map row_of table.rows) index
-index_as tables number other positions worked index table same is there found =
-    subst (λ (ps : List ℕ). IsIndexOf ps (map row_of table.rows) index) is (found table (ap (table_of tables) same ∙ there))
+-- periods that were looked up by their positions
+pub index_as : (tables : List TableRows) (number other : ℕ) (positions worked : List ℕ) (at : List Value → List Period) (table : TableRows) → other ≡ number → worked ≡ positions → table_of tables number ≡ Some table
+    → ((t : TableRows) → table_of tables other ≡ Some t → AreAtKeys worked (map row_of t.rows) at) → AreAtKeys positions (map row_of table.rows) at
+index_as tables number other positions worked at table same is there found =
+    subst (λ (ps : List ℕ). AreAtKeys ps (map row_of table.rows) at) is (found table (ap (table_of tables) same ∙ there))

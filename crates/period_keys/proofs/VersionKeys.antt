@@ -9,7 +9,8 @@ use Rattle.period_core.specs.declared.value.Value.{Value}
 use Rattle.period_core.specs.declared.version.VersionRow.{VersionRow}
 use Rattle.history_model.specs.Versions.{row_of}
 use Rattle.period_keys.specs.Index.{AreAtKeys, has_key, periods_of_key}
-use Rattle.period_keys.specs.Rows.{RowsByKey, rows_of_key}
+use Rattle.period_keys.specs.LookUps.{periods_of_rows}
+use Rattle.period_keys.specs.Rows.{RowsByKey}
 use Rattle.period_keys.specs.Versions.{is_of_key, period_of}
 
 periods_same : (positions : List ℕ) (key : List Value) (rows : List VersionRow) → map period_of (filter (is_of_key positions key) rows) ≡ periods_of_key positions (map row_of rows) key
@@ -22,12 +23,9 @@ periods_same positions key (v ∷ rows) = by_test (is_of_key positions key v) (p
     by_test true e = ap (λ (ps : List Period). v.period ∷ ps) e
     by_test false e = e
 
--- the periods at each key of a table's current rows
-abbrev pub at_key : RowsByKey → List Value → List Period
-at_key table key = map period_of (rows_of_key table key)
-
-pub at_keys : (table : RowsByKey) → AreAtKeys table.positions (map row_of table.rows) (at_key table)
-at_keys table = λ key. subst (IsPermutation (at_key table key)) (periods_same table.positions key table.rows) (IsPermutation-refl (at_key table key))
+-- the periods of a table's current rows at each key
+pub at_keys : (table : RowsByKey) → AreAtKeys table.positions (map row_of table.rows) (periods_of_rows table)
+at_keys table = λ key. subst (IsPermutation (periods_of_rows table key)) (periods_same table.positions key table.rows) (IsPermutation-refl (periods_of_rows table key))
 
 -- the rows of versions, some of which go
 pub rows_split : (all ended stay : List VersionRow) → IsPermutation all (ended ++ stay) → IsPermutation (map row_of all) (map row_of ended ++ map row_of stay)

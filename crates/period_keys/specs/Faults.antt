@@ -10,11 +10,12 @@ use Rattle.catalog_core.specs.declared.table.Reference.{Reference}
 use Rattle.catalog_core.specs.declared.table.TableDef.{TableDef}
 use Rattle.history_model.specs.Histories.{State}
 use Rattle.history_model.specs.Versions.{row_of}
-use Rattle.period_keys.specs.Index.{IsIndexOf}
-use Rattle.period_keys.specs.declared.keyed_periods.KeyedPeriods.{KeyedPeriods}
+use Rattle.period_keys.specs.Index.{AreAtKeys}
+use Rattle.period_keys.specs.declared.periods_by_key.PeriodsByKey.{PeriodsByKey}
 use Rattle.period_keys.specs.Current.{HoldCurrent, ReferToEarlier, rows_by_key}
 use Rattle.period_keys.specs.Lawful.{HoldsTable, IsLawfulState, LacksParentBy, Refers}
 use Rattle.period_keys.specs.Lawful.{own_positions, parent_positions, state_after}
+use Rattle.period_keys.specs.LookUps.{periods_by}
 use Rattle.period_keys.specs.TableRows.{TableRows}
 use Rattle.period_keys.specs.Planned.{IsPlanOf}
 
@@ -25,28 +26,29 @@ pub record IsPlanned (catalog : List TableDef) (before : State) (change : Change
   pub holds : HoldsTable (map row_of current) before change.table
   pub planned : IsPlanOf change.action current plan
 
--- the changed table refers to another, whose rows are in the index by the columns referred to
+-- the changed table refers to another, whose periods are looked up by the columns referred to
 pub record RefersToOther (catalog : List TableDef) (before : State) (change : Change)
-    (child : TableDef) (reference : Reference) (parent : TableDef) (parents : KeyedPeriods)
+    (child : TableDef) (reference : Reference) (parent : TableDef) (parents : PeriodsByKey)
     : Type 0 where
   pub refers : Refers catalog change.table child reference parent
   pub other : reference.parent ≡ change.table → ⊥
   pub above : List PeriodRow
   pub holds : HoldsTable above before reference.parent
-  pub indexed : IsIndexOf (parent_positions parent reference) above parents
+  pub indexed : AreAtKeys (parent_positions parent reference) above (periods_by parents)
 
--- another table refers to the changed one: its rows are in one index by its own columns, rows of
--- the changed one in another by the columns referred to
+-- another table refers to the changed one: its periods are looked up by its own columns, those of
+-- the changed one by the columns referred to
 pub record IsReferredTo (catalog : List TableDef) (before : State) (change : Change)
     (current : List VersionRow) (number : ℕ) (child : TableDef) (reference : Reference)
-    (parent : TableDef) (children parents : KeyedPeriods) : Type 0 where
+    (parent : TableDef) (children parents : PeriodsByKey) : Type 0 where
   pub refers : Refers catalog number child reference parent
   pub changed : reference.parent ≡ change.table
   pub other : number ≡ change.table → ⊥
   pub below : List PeriodRow
   pub holds : HoldsTable below before number
-  pub children_indexed : IsIndexOf (own_positions child reference) below children
-  pub parents_indexed : IsIndexOf (parent_positions parent reference) (map row_of current) parents
+  pub children_indexed : AreAtKeys (own_positions child reference) below (periods_by children)
+  pub parents_indexed :
+      AreAtKeys (parent_positions parent reference) (map row_of current) (periods_by parents)
 
 -- ---- all references
 

@@ -139,30 +139,39 @@ IsRangeWithin conditions start width positions range =
     → IsTrue (meets_all conditions (first ++ (values ++ rest)))
     → is_in_range range (values_at positions values) ≡ true
 
--- ---- combined rows in which known values come right before the row's own
+-- ---- combined rows that have known values
 
--- in each such combined row that meets the conditions, the row has this value at the position
+-- the row has the known values from a place on
+abbrev pub HasFrom : List Value → ℕ → List Value → Type 0
+HasFrom known at row =
+    (before after : List Value) × (length before ≡ at) × (before ++ (known ++ after) ≡ row)
+
+-- in each combined row that meets the conditions and has the known values from a place on, the row
+-- has this value at the position
 abbrev pub IsValueAfter
-    : List (Tree CompareValues) → List Value → ℕ → ℕ → ℕ → Value → Type 0
-IsValueAfter conditions known start width position value =
-    (first values rest : List Value) → length (first ++ known) ≡ start → length values ≡ width
-    → IsTrue (meets_all conditions ((first ++ known) ++ (values ++ rest)))
+    : List (Tree CompareValues) → List Value → ℕ → ℕ → ℕ → ℕ → Value → Type 0
+IsValueAfter conditions known at start width position value =
+    (first values rest : List Value) → length first ≡ start → length values ≡ width
+    → HasFrom known at (first ++ (values ++ rest))
+    → IsTrue (meets_all conditions (first ++ (values ++ rest)))
     → slice_get values position ≡ Some value
 
 -- the conditions fix this key in each such combined row
 abbrev pub FixesKeyAfter
-    : List (Tree CompareValues) → List Value → ℕ → ℕ → List ℕ → List Value → Type 0
-FixesKeyAfter conditions known start width positions key =
-    (first values rest : List Value) → length (first ++ known) ≡ start → length values ≡ width
-    → IsTrue (meets_all conditions ((first ++ known) ++ (values ++ rest)))
+    : List (Tree CompareValues) → List Value → ℕ → ℕ → ℕ → List ℕ → List Value → Type 0
+FixesKeyAfter conditions known at start width positions key =
+    (first values rest : List Value) → length first ≡ start → length values ≡ width
+    → HasFrom known at (first ++ (values ++ rest))
+    → IsTrue (meets_all conditions (first ++ (values ++ rest)))
     → values_at positions values ≡ key
 
 -- in each such combined row that meets the conditions the row has its key in the range
 abbrev pub IsRangeAfter
-    : List (Tree CompareValues) → List Value → ℕ → ℕ → List ℕ → KeyRange → Type 0
-IsRangeAfter conditions known start width positions range =
-    (first values rest : List Value) → length (first ++ known) ≡ start → length values ≡ width
-    → IsTrue (meets_all conditions ((first ++ known) ++ (values ++ rest)))
+    : List (Tree CompareValues) → List Value → ℕ → ℕ → ℕ → List ℕ → KeyRange → Type 0
+IsRangeAfter conditions known at start width positions range =
+    (first values rest : List Value) → length first ≡ start → length values ≡ width
+    → HasFrom known at (first ++ (values ++ rest))
+    → IsTrue (meets_all conditions (first ++ (values ++ rest)))
     → is_in_range range (values_at positions values) ≡ true
 
 -- ---- conditions on the places of a combined row
@@ -203,18 +212,20 @@ SaysWithin conditions start width comparison position value =
     (position < width) × ((other : ℕ) × AreSaidEqual conditions (start + position) other
     × SomeStates comparison conditions other value)
 
--- conditions say that the value at a position of the row equals a known one, right before the row
-abbrev pub SaysKnown : List (Tree CompareValues) → List Value → ℕ → ℕ → ℕ → Value → Type 0
-SaysKnown conditions known start width position value =
-    (position < width) × ((before index : ℕ) × (before + length known ≡ start)
-    × AreSaidEqual conditions (start + position) (before + index)
+-- conditions say that the value at a position of the row equals a known one
+abbrev pub SaysKnown
+    : List (Tree CompareValues) → List Value → ℕ → ℕ → ℕ → ℕ → Value → Type 0
+SaysKnown conditions known at start width position value =
+    (position < width) × ((index : ℕ)
+    × AreSaidEqual conditions (start + position) (at + index)
     × (slice_get known index ≡ Some value))
 
 -- conditions say that the value at a position equals a literal, or a known one
-abbrev pub SaysAfter : List (Tree CompareValues) → List Value → ℕ → ℕ → ℕ → Value → Type 0
-SaysAfter conditions known start width position value =
+abbrev pub SaysAfter
+    : List (Tree CompareValues) → List Value → ℕ → ℕ → ℕ → ℕ → Value → Type 0
+SaysAfter conditions known at start width position value =
     SaysWithin conditions start width Equal position value
-    ⊎ SaysKnown conditions known start width position value
+    ⊎ SaysKnown conditions known at start width position value
 
 -- ---- places, each but the first by a condition of its own
 

@@ -11,6 +11,7 @@ pub mod Versions
 pub mod Near
 pub mod Placed
 pub mod Rows
+pub mod LookUps
 pub mod Laws
 pub mod Repeats
 pub mod Lawful

@@ -1,5 +1,5 @@
 -- A table's current rows, with the positions by which they are looked up.
-use Rattle.std.specs.Prelude.{◌≡◌, ℕ, Contains, IsPermutation, List, map}
+use Rattle.std.specs.Prelude.{◌≡◌, ℕ, Contains, IsPermutation, List, drop, map}
 use Rattle.period_core.specs.declared.row.PeriodRow.{PeriodRow}
 use Rattle.period_core.specs.declared.version.VersionRow.{VersionRow}
 use Rattle.period_keys.specs.Keys.{key_values}
@@ -7,7 +7,8 @@ use Rattle.period_keys.specs.PeriodIndexes.{AreKeysByEach}
 use Rattle.period_keys.specs.declared.table_index.TouchedKeys.{TouchedKeys}
 
 -- the positions of the key's columns among a row's values, all rows, in some order, and the
--- positions of the columns of each reference by which the rows' periods are indexed
+-- positions by which the rows' periods are looked up: first those of the key, and then those of the
+-- columns of references
 pub record TableRows : Type 0 where
   pub positions : List ℕ
   pub rows : List VersionRow
@@ -26,8 +27,8 @@ pub record HasMoreIndexes (old new : TableRows) : Type 0 where
   pub indexed : (positions : List ℕ)
       → Contains old.indexed positions → Contains new.indexed positions
 
--- the rows' keys by all of the table's positions
+-- the rows' keys by the table's key, and by each of the other positions
 pub record AreTouchedKeys (table : TableRows) (rows : List PeriodRow) (keys : TouchedKeys)
     : Type 0 where
   pub by_key : keys.by_key.items ≡ map (key_values table.positions) rows
-  pub by_each : AreKeysByEach rows table.indexed keys.by_each.items
+  pub by_each : AreKeysByEach rows (drop 1 table.indexed) keys.by_each.items

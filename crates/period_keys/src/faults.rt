@@ -16,7 +16,7 @@ ghost use Rattle.period_keys.specs.Lawful.{parent_positions, state_after};
 use crate::clashes::key_clash_after;
 use crate::current_rows::CurrentRows;
 use crate::key::Key;
-use crate::keyed_periods::KeyedPeriods;
+use crate::periods_by_key::PeriodsByKey;
 use crate::references::{uncovered_by_children, uncovered_by_parents};
 use catalog_core::Plan;
 use period_core::{Day, Memory, PeriodRow, VersionRow};
@@ -48,7 +48,7 @@ pub fn child_fault(
     alloc: Global,
     own: &[usize],
     plan: &Plan,
-    parents: &KeyedPeriods,
+    parents: &PeriodsByKey,
 ) -> Result<Option<Day>, Memory>
     ensures { IfOk result (λ found. (catalog : List TableDef) (before : State)
         (change : ChangeModel) (current : List Version)
@@ -68,9 +68,9 @@ pub fn child_fault(
 pub fn parent_fault(
     alloc: Global,
     keys: &[usize],
-    parents: &KeyedPeriods,
+    parents: &PeriodsByKey,
     plan: &Plan,
-    children: &KeyedPeriods,
+    children: &PeriodsByKey,
 ) -> Result<Option<Day>, Memory>
     ensures { IfOk result (λ found. (catalog : List TableDef) (before : State)
         (change : ChangeModel) (current : List Version)

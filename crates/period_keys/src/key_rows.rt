@@ -10,6 +10,7 @@ ghost use Rattle.std.specs.List.Sorted.{IsSorted};
 ghost use Rattle.std.specs.Ordering.{nat_cmp};
 ghost use Rattle.period_core.specs.declared.version.VersionRow.{VersionRow as Version};
 ghost use Rattle.period_keys.specs.Between.{Meets};
+ghost use Rattle.period_keys.specs.Gaps.{IsEndOfHolder};
 ghost use Rattle.period_keys.specs.Index.{SharesDayOfKept, periods_at};
 ghost use Rattle.period_keys.specs.Keys.{IsLeastOf};
 ghost use Rattle.period_keys.specs.Near.{IsAt};
@@ -19,7 +20,7 @@ ghost use Rattle.period_keys.specs.Versions.{period_of, recorded};
 use crate::block::Block;
 use crate::key::Key;
 use crate::keyed_periods::KeyedPeriods;
-use crate::near_rows::{first_shared_near, is_recorded, place_near, places_near};
+use crate::near_rows::{end_near, first_shared_near, is_recorded, place_near, places_near};
 use crate::period_blocks::PeriodBlocks;
 use crate::placed_period::PlacedPeriod;
 use crate::shared_days::{earlier, first_of_kept};
@@ -126,6 +127,20 @@ impl KeyRows {
             Some(placed) => first_shared_near(rows, placed.as_slice(), gone, key, period),
             None => first_shared_among(rows, gone, key, period),
         }
+    }
+
+    /// The end of the period of a row that holds the day. If no two rows hold it, few rows are
+    /// looked at, but to find that none does.
+    pub fn end_of_holder(&self, day: Day) -> Option<Day>
+        ensures { IsEndOfHolder (map period_of self.now.rows.items) day result }
+    {
+        let rows = self.rows.as_slice();
+        if let Some(placed) = &self.placed {
+            if let Some(end) = end_near(rows, placed.near(day), day) {
+                return Some(end);
+            }
+        }
+        end_among(rows, day)
     }
 
     /// The places of the rows that share a day with the period, in ascending order, if that
@@ -272,6 +287,18 @@ fn place_among(
     for place in 0..rows.len() {
         if is_recorded(&rows[place], values, *period, from, to) {
             return Some(place);
+        }
+    }
+    None
+}
+
+// The end of the period of a row that holds the day.
+fn end_among(rows: &[VersionRow], day: Day) -> Option<Day>
+    ensures { IsEndOfHolder (map period_of rows.now) day result }
+{
+    for row in rows {
+        if row.period.contains_day(day) {
+            return Some(row.period.end);
         }
     }
     None

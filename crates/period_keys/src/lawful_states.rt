@@ -87,6 +87,6 @@ fn is_covered(
     let own = positions_of(alloc, child, reference.own.as_slice())?;
     let keys = positions_of(alloc, parent, reference.keys.as_slice())?;
     let parents = periods_by(tables, usize::from(reference.parent), keys.as_slice());
-    let found = uncovered_by_children(alloc, own.as_slice(), rows, parents)?;
+    let found = uncovered_by_children(alloc, own.as_slice(), rows, &parents)?;
     Ok(found.is_none())
 }

@@ -6,7 +6,8 @@
 //! `key_rows`). Those of one key are found by days, if they are many: their periods are stored
 //! too, with their places (`placed_period`) in blocks (`block`, `period_blocks`), and
 //!   `near_rows` looks at the blocks near a period alone.
-//! - The rows' periods are also in an index by the columns of references (`period_indexes`,
+//! - References look up periods by key (`periods_by_key`, `periods_of_key`): among the rows, if
+//!   their columns are those of the key, or else in an index by their columns (`period_indexes`,
 //!   `keyed_periods`, `ordered_periods`). `TableIndex` has both, and follows a change all or none.
 //! - `plans` makes a change's plan of the rows of the keys in the range that its condition leaves
 //!   (`fixed_keys`, `key_range`), and of many rows of a key of those near its portion.
@@ -40,6 +41,8 @@ mod near_rows;
 mod ordered_periods;
 mod period_blocks;
 mod period_indexes;
+mod periods_by_key;
+mod periods_of_key;
 mod placed_period;
 mod plans;
 mod positions;

@@ -1,7 +1,7 @@
 //! The rows of a key that hold on days of a period, found by blocks of their periods.
 
 ghost use Rattle.std.specs.Prelude.{◌≡◌, ◌<◌, ◌↔◌, ℕ, Contains, IfOk, IfSome, IsTrue, OnOk, length};
-ghost use Rattle.std.specs.Prelude.{slice_index_or};
+ghost use Rattle.std.specs.Prelude.{map, slice_index_or};
 ghost use Rattle.std.specs.List.{Any};
 ghost use Rattle.std.specs.List.Sorted.{IsSorted};
 ghost use Rattle.std.specs.Ordering.{nat_cmp};
@@ -9,10 +9,11 @@ ghost use Rattle.period_core.specs.declared.version.VersionRow.{VersionRow as Ve
 ghost use Rattle.period_keys.specs.declared.block.Block.{Block as BlockModel};
 ghost use Rattle.period_keys.specs.declared.placed_period.PlacedPeriod.{PlacedPeriod as Placed};
 ghost use Rattle.period_keys.specs.Between.{Meets};
+ghost use Rattle.period_keys.specs.Gaps.{IsHeldUntil};
 ghost use Rattle.period_keys.specs.Index.{periods_at};
 ghost use Rattle.period_keys.specs.Keys.{IsLeastOf};
 ghost use Rattle.period_keys.specs.Near.{IsAt, IsKeptAt};
-ghost use Rattle.period_keys.specs.Versions.{recorded};
+ghost use Rattle.period_keys.specs.Versions.{period_of, recorded};
 
 use crate::block::{Block, is_same_period};
 use crate::key::Key;
@@ -159,6 +160,32 @@ fn is_at(rows: &[VersionRow], item: &PlacedPeriod) -> bool
     ensures { IsTrue result ↔ IsAt rows.now item.now }
 {
     item.place < rows.len() && is_same_period(&rows[item.place].period, &item.period)
+}
+
+/// The end of the period of a row that holds the day, if the items have one.
+pub fn end_near(rows: &[VersionRow], items: &[PlacedPeriod], day: Day) -> Option<Day>
+    ensures { IfSome result (IsHeldUntil (map period_of rows.now) day) }
+{
+    for item in items {
+        if let Some(end) = end_at(rows, item, day) {
+            return Some(end);
+        }
+    }
+    None
+}
+
+// The end of the period of one row, if it holds the day.
+fn end_at(rows: &[VersionRow], item: &PlacedPeriod, day: Day) -> Option<Day>
+    ensures { IfSome result (IsHeldUntil (map period_of rows.now) day) }
+{
+    if !item.period.contains_day(day) {
+        return None;
+    }
+    if is_at(rows, item) {
+        Some(item.period.end)
+    } else {
+        None
+    }
 }
 
 /// The place of the row with the values, period and system time given, if the blocks have it.

@@ -38,11 +38,9 @@ impl OrderedPeriods {
     }
 
     /// The periods, sorted.
-    pub fn sorted(alloc: Global, periods: &[Period]) -> Result<OrderedPeriods, Memory>
-        ensures { IfOk result (λ sorted. IsPermutation periods.now sorted.items.items) }
+    pub fn sorted(mut items: Vec<Period>) -> Result<OrderedPeriods, Memory>
+        ensures { IfOk result (λ sorted. IsPermutation items.items sorted.items.items) }
     {
-        let mut items = Vec::new(alloc);
-        items.extend_from_slice(periods)?;
         items.sort_by_key(|period| period.start)?;
         let settled = items.len();
         Ok(OrderedPeriods { items, settled })

@@ -39,6 +39,14 @@ impl PeriodBlocks {
         self.blocks.as_slice()
     }
 
+    /// The placed periods of one block: one of them holds the day, if any does and all are apart.
+    pub fn near(&self, day: Day) -> &[PlacedPeriod] {
+        match self.blocks.get(self.insertion_point(day)) {
+            Some(block) => block.as_slice(),
+            None => &[],
+        }
+    }
+
     /// Adds one. After an error some of the earlier ones may be gone.
     pub fn add(&mut self, alloc: Global, item: &PlacedPeriod) -> Result<(), Memory>
         ensures kept { OnOk result

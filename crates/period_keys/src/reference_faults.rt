@@ -9,14 +9,15 @@ ghost use Rattle.history_model.specs.Histories.{State};
 ghost use Rattle.history_model.specs.Versions.{row_of};
 ghost use Rattle.period_keys.specs.Current.{HaveIndexes, IsIndexed, IsIndexedBy};
 ghost use Rattle.period_keys.specs.Faults.{IsFaultBy, IsFaultOf, IsPlannedIn};
-ghost use Rattle.period_keys.specs.Index.{IsIndexOf};
+ghost use Rattle.period_keys.specs.Index.{AreAtKeys};
 ghost use Rattle.period_keys.specs.Keys.{IsLeastOf};
 ghost use Rattle.period_keys.specs.Lawful.{IsReferenceFault, LacksParentBy, Refers};
 ghost use Rattle.period_keys.specs.Lawful.{state_after};
+ghost use Rattle.period_keys.specs.LookUps.{periods_by};
 ghost use Rattle.period_keys.specs.TableRows.{TableRows};
 
 use crate::faults::{child_fault, parent_fault};
-use crate::keyed_periods::KeyedPeriods;
+use crate::periods_by_key::PeriodsByKey;
 use crate::positions::positions_of;
 use crate::shared_days::earlier;
 use crate::table_index::TableIndex;
@@ -141,7 +142,7 @@ fn fault_from(
     let own = positions_of(alloc, child, reference.own.as_slice())?;
     let keys = positions_of(alloc, parent, reference.keys.as_slice())?;
     let parents = periods_by(tables, usize::from(reference.parent), keys.as_slice());
-    let found = child_fault(alloc, own.as_slice(), plan, parents)?;
+    let found = child_fault(alloc, own.as_slice(), plan, &parents)?;
     Ok(found)
 }
 
@@ -169,20 +170,20 @@ fn fault_to(
     let keys = positions_of(alloc, parent, reference.keys.as_slice())?;
     let children = periods_by(tables, number, own.as_slice());
     let parents = periods_by(tables, usize::from(reference.parent), keys.as_slice());
-    let found = parent_fault(alloc, keys.as_slice(), parents, plan, children)?;
+    let found = parent_fault(alloc, keys.as_slice(), &parents, plan, &children)?;
     Ok(found)
 }
 
-/// The periods of the table of a number by its rows' values at these positions, by which it is
-/// indexed.
+/// The periods of the table of a number by its rows' values at these positions, by which they are
+/// looked up.
 pub fn periods_by<'a>(
     tables: &'a [TableIndex],
     number: usize,
     positions: &[usize],
-) -> &'a KeyedPeriods
+) -> PeriodsByKey<'a>
     requires { IsIndexedBy tables.now number positions.now }
     ensures { (table : TableRows) → table_of tables.now number ≡ Some table
-        → IsIndexOf positions.now (map row_of table.rows) result.now }
+        → AreAtKeys positions.now (map row_of table.rows) (periods_by result) }
 {
     let table = &tables[number - 1];
     let Some(periods) = table.by(positions) else {

@@ -6,14 +6,17 @@ ghost use Rattle.std.specs.List.{Any};
 ghost use Rattle.period_core.specs.declared.period.Period.{Period as PeriodModel};
 ghost use Rattle.period_core.specs.declared.row.PeriodRow.{PeriodRow as Row};
 ghost use Rattle.period_keys.specs.Keys.{IsEachCovered, IsLeastOf, IsUncovered};
-ghost use Rattle.period_keys.specs.Index.{IsIndexOf};
-ghost use Rattle.period_keys.specs.Gaps.{IsGap, LacksKeyOf};
+ghost use Rattle.period_keys.specs.Index.{AreAtKeys, IsIndexOf};
+ghost use Rattle.period_keys.specs.Gaps.{LacksKeyOf};
+ghost use Rattle.period_keys.specs.LookUps.{periods_by, periods_of};
 
 use crate::clashes::index_of;
 use crate::gaps::{first_gap, first_gap_of_some};
 use crate::keyed_periods::KeyedPeriods;
 use crate::keys::key_of;
 use crate::ordered_periods::OrderedPeriods;
+use crate::periods_by_key::PeriodsByKey;
+use crate::periods_of_key::PeriodsOfKey;
 use crate::shared_days::earlier;
 use period_core::{Day, Memory, Period, PeriodRow};
 use std::alloc::Global;
@@ -21,20 +24,20 @@ use std::alloc::Global;
 // Up to this many children are judged one by one, more by their keys.
 const FEW: usize = 8;
 
-/// The least day on which a child has no parent after the children are added, for an index of the
-/// parents by their keys. Children that went make no difference.
+/// The least day on which a child has no parent after the children are added, by the periods of the
+/// parents. Children that went make no difference.
 pub fn uncovered_by_children(
     alloc: Global,
     own: &[usize],
     added: &[PeriodRow],
-    parents: &KeyedPeriods,
+    parents: &PeriodsByKey,
 ) -> Result<Option<Day>, Memory>
     ensures by_touched { IfOk result
-        (λ found. IsLeastOf (LacksKeyOf own.now added.now parents.now) found) }
+        (λ found. IsLeastOf (LacksKeyOf own.now added.now (periods_by parents.now)) found) }
 
     // A look at all children would find this day, if each had a parent before.
     ensures of_whole { IfOk result (λ found. (keys : List ℕ) (above before ended stay : List Row)
-        → IsIndexOf keys above parents.now
+        → AreAtKeys keys above (periods_by parents.now)
         → IsEachCovered own.now before keys above
         → IsPermutation before (ended ++ stay)
         → IsLeastOf (IsUncovered own.now (stay ++ added.now) keys above) found) }
@@ -48,10 +51,10 @@ fn least_lack(
     alloc: Global,
     own: &[usize],
     children: &[PeriodRow],
-    parents: &KeyedPeriods,
+    parents: &PeriodsByKey,
 ) -> Result<Option<Day>, Memory>
     ensures { IfOk result
-        (λ found. IsLeastOf (LacksKeyOf own.now children.now parents.now) found) }
+        (λ found. IsLeastOf (LacksKeyOf own.now children.now (periods_by parents.now)) found) }
 {
     if children.len() <= FEW {
         return least_lack_one_by_one(alloc, own, children, parents);
@@ -64,16 +67,15 @@ fn least_lack_one_by_one(
     alloc: Global,
     own: &[usize],
     children: &[PeriodRow],
-    parents: &KeyedPeriods,
+    parents: &PeriodsByKey,
 ) -> Result<Option<Day>, Memory>
     ensures { IfOk result
-        (λ found. IsLeastOf (LacksKeyOf own.now children.now parents.now) found) }
+        (λ found. IsLeastOf (LacksKeyOf own.now children.now (periods_by parents.now)) found) }
 {
     let mut found = None;
     for child in children {
         let key = key_of(alloc, own, child)?;
-        let (first, second) = parents.runs_of_key(&key);
-        found = earlier(found, first_gap(first, second, &child.period));
+        found = earlier(found, first_gap(&parents.of_key(&key), &child.period));
     }
     Ok(found)
 }
@@ -83,10 +85,10 @@ fn least_lack_key_by_key(
     alloc: Global,
     own: &[usize],
     children: &[PeriodRow],
-    parents: &KeyedPeriods,
+    parents: &PeriodsByKey,
 ) -> Result<Option<Day>, Memory>
     ensures { IfOk result
-        (λ found. IsLeastOf (LacksKeyOf own.now children.now parents.now) found) }
+        (λ found. IsLeastOf (LacksKeyOf own.now children.now (periods_by parents.now)) found) }
 {
     let by_key = index_of(alloc, own, children)?;
     let found = least_lack_of_keys(alloc, &by_key, parents)?;
@@ -97,19 +99,18 @@ fn least_lack_key_by_key(
 fn least_lack_of_keys(
     alloc: Global,
     children: &KeyedPeriods,
-    parents: &KeyedPeriods,
+    parents: &PeriodsByKey,
 ) -> Result<Option<Day>, Memory>
     ensures { IfOk result (λ found. (own : List ℕ) (rows : List Row)
         → IsIndexOf own rows children.now
-        → IsLeastOf (LacksKeyOf own rows parents.now) found) }
+        → IsLeastOf (LacksKeyOf own rows (periods_by parents.now)) found) }
 {
     let keys = children.keys(alloc)?;
     let mut found = None;
     for key in keys.as_slice() {
-        let (first, second) = parents.runs_of_key(key);
         found = earlier(
             found,
-            first_gap_of_some(first, second, children.of_key(key)),
+            first_gap_of_some(&parents.of_key(key), children.of_key(key)),
         );
     }
     Ok(found)
@@ -126,24 +127,24 @@ pub fn rows_uncovered(
     ensures { IfOk result (IsLeastOf (IsUncovered own.now children.now keys.now parents.now)) }
 {
     let index = index_of(alloc, keys, parents)?;
-    let found = uncovered_by_children(alloc, own, children, &index)?;
+    let found = uncovered_by_children(alloc, own, children, &PeriodsByKey::Index(&index))?;
     Ok(found)
 }
 
 /// The least day on which a child has no parent after the ended parents are removed and new ones
-/// added, for children that each had one before, and indexes of both tables by the columns of
+/// added, for children that each had one before, and the periods of both tables by the columns of
 /// the reference.
 pub fn uncovered_by_parents(
     alloc: Global,
     keys: &[usize],
-    parents: &KeyedPeriods,
+    parents: &PeriodsByKey,
     ended: &[PeriodRow],
     added: &[PeriodRow],
-    children: &KeyedPeriods,
+    children: &PeriodsByKey,
 ) -> Result<Option<Day>, Memory>
     ensures { IfOk result (λ found. (own : List ℕ) (below before stay : List Row)
-        → IsIndexOf own below children.now
-        → IsIndexOf keys.now before parents.now
+        → AreAtKeys own below (periods_by children.now)
+        → AreAtKeys keys.now before (periods_by parents.now)
         → IsEachCovered own below keys.now before
         → IsPermutation before (ended.now ++ stay)
         → IsLeastOf (IsUncovered own below keys.now (stay ++ added.now)) found) }
@@ -158,14 +159,14 @@ pub fn uncovered_by_parents(
 // judged once.
 fn uncovered_by_keys(
     alloc: Global,
-    parents: &KeyedPeriods,
+    parents: &PeriodsByKey,
     gone: &KeyedPeriods,
     new: &KeyedPeriods,
-    children: &KeyedPeriods,
+    children: &PeriodsByKey,
 ) -> Result<Option<Day>, Memory>
     ensures { IfOk result (λ found. (own keys : List ℕ) (below before ended stay added : List Row)
-        → IsIndexOf own below children.now
-        → IsIndexOf keys before parents.now
+        → AreAtKeys own below (periods_by children.now)
+        → AreAtKeys keys before (periods_by parents.now)
         → IsIndexOf keys ended gone.now
         → IsIndexOf keys added new.now
         → IsEachCovered own below keys before
@@ -177,15 +178,14 @@ fn uncovered_by_keys(
     for key in ended_keys.as_slice() {
         let there = there_after(
             alloc,
-            parents.of_key(key),
+            &parents.of_key(key),
             gone.of_key(key),
             new.of_key(key),
         )?;
+        let below = children.of_key(key).collect(alloc)?;
         let (first, second) = there.runs();
-        found = earlier(
-            found,
-            first_gap_of_some(first, second, children.of_key(key)),
-        );
+        let periods = PeriodsOfKey::InRuns(first, second);
+        found = earlier(found, first_gap_of_some(&periods, below.as_slice()));
     }
     Ok(found)
 }
@@ -193,15 +193,15 @@ fn uncovered_by_keys(
 // A key's periods without those that go, and with those that come. Equal periods are as many.
 fn there_after(
     alloc: Global,
-    periods: &[Period],
+    periods: &PeriodsOfKey,
     gone: &[Period],
     new: &[Period],
 ) -> Result<OrderedPeriods, Memory>
     ensures { IfOk result (λ there. (stay : List PeriodModel)
-        → IsPermutation periods.now (gone.now ++ stay)
+        → IsPermutation (periods_of periods.now) (gone.now ++ stay)
         → IsPermutation there.items.items (stay ++ new.now)) }
 {
-    let mut there = OrderedPeriods::sorted(alloc, periods)?;
+    let mut there = OrderedPeriods::sorted(periods.collect(alloc)?)?;
     for going in gone {
         let _taken = there.take_one(going);
     }

@@ -1,11 +1,12 @@
-//! A table's current rows by key, and their periods by the columns of references.
+//! A table's current rows by key, and their periods by the columns of references too.
 
 ghost use Rattle.std.specs.Prelude.{◌≡◌, ◌↔◌, ◌++◌, ◌∷◌, [], Contains, IfOk, IfSome, IsSome};
 ghost use Rattle.std.specs.Prelude.{IsPermutation, List, OnErr, OnOk, map};
 ghost use Rattle.period_core.specs.declared.version.VersionRow.{VersionRow as Version};
 ghost use Rattle.history_model.specs.Versions.{row_of};
-ghost use Rattle.period_keys.specs.Index.{IsIndexOf};
+ghost use Rattle.period_keys.specs.Index.{AreAtKeys};
 ghost use Rattle.period_keys.specs.Keys.{key_values};
+ghost use Rattle.period_keys.specs.LookUps.{periods_by};
 ghost use Rattle.period_keys.specs.TableRows.{AreTouchedKeys, HasMoreIndexes, HasTableRows};
 ghost use Rattle.period_keys.specs.Versions.{begun};
 
@@ -13,14 +14,14 @@ use crate::changes::keys_of;
 use crate::clashes::index_of_current;
 use crate::current_rows::CurrentRows;
 use crate::key::Key;
-use crate::keyed_periods::KeyedPeriods;
 use crate::period_indexes::{PeriodIndex, add_to_each, keys_by_each, take_from_each};
+use crate::periods_by_key::PeriodsByKey;
 use period_core::{Items, Memory, Moment, PeriodRow, VersionRow};
 use std::alloc::Global;
 use std::marker::Model;
 
 /// The current rows of one table by key, and their periods by the columns of each reference from
-/// the table and to it.
+/// the table and to it. The rows themselves have the periods by the columns of the key.
 #[derive(Drop)]
 pub struct TableIndex {
     rows: CurrentRows,
@@ -28,7 +29,7 @@ pub struct TableIndex {
 }
 
 impl Model for TableIndex {
-    ghost use Rattle.std.specs.Prelude.{map};
+    ghost use Rattle.std.specs.Prelude.{◌∷◌, map};
     ghost use Rattle.history_model.specs.Versions.{row_of};
     ghost use Rattle.period_keys.specs.PeriodIndexes.{EachIndexes, positions_by};
     ghost use Rattle.period_keys.specs.TableRows.{TableRows};
@@ -38,7 +39,7 @@ impl Model for TableIndex {
     ghost view = { λ t. record {
       positions = t.rows.positions;
       rows = t.rows.rows;
-      indexed = map positions_by t.indexes.items;
+      indexed = t.rows.positions ∷ map positions_by t.indexes.items;
     } };
 
     ghost invariant = { λ t. EachIndexes (map row_of t.rows.rows) t.indexes.items };
@@ -56,7 +57,7 @@ impl TableIndex {
     pub fn new(alloc: Global, rows: CurrentRows) -> TableIndex
         ensures positions { result.positions ≡ rows.positions }
         ensures rows { result.rows ≡ rows.rows }
-        ensures indexed { result.indexed ≡ [] }
+        ensures indexed { result.indexed ≡ rows.positions ∷ [] }
     {
         TableIndex {
             rows,
@@ -72,15 +73,18 @@ impl TableIndex {
         &self.rows
     }
 
-    /// The rows' periods by their values at these positions, if they are indexed so.
-    pub(crate) fn by(&self, positions: &[usize]) -> Option<&KeyedPeriods>
-        ensures found { IfSome result
-            (λ periods. IsIndexOf positions.now (map row_of self.now.rows) periods.now) }
+    /// The rows' periods by their values at these positions, if they can be looked up so.
+    pub(crate) fn by(&self, positions: &[usize]) -> Option<PeriodsByKey<'_>>
+        ensures found { IfSome result (λ periods.
+            AreAtKeys positions.now (map row_of self.now.rows) (periods_by periods)) }
         ensures there { IsSome result ↔ Contains self.now.indexed positions.now }
     {
+        if self.rows.positions() == positions {
+            return Some(PeriodsByKey::OfRows(&self.rows));
+        }
         for index in self.indexes.as_slice() {
             if index.positions.as_slice() == positions {
-                return Some(&index.periods);
+                return Some(PeriodsByKey::Index(&index.periods));
             }
         }
         None
@@ -100,7 +104,8 @@ impl TableIndex {
         Ok(())
     }
 
-    /// Indexes the rows' periods by their values at these positions, if they are not yet.
+    /// Indexes the rows' periods by their values at these positions, if they cannot be looked up by
+    /// these yet.
     pub(crate) fn index_once(
         &mut self,
         alloc: Global,

@@ -111,7 +111,7 @@ fn index_as_child(alloc: Global, child: &TableDef, table: &mut TableIndex) -> Re
     Ok(())
 }
 
-// Indexes the rows of a child's parents by the columns that it refers to.
+// Indexes the rows of a child's parents by the columns that it refers to, but for the key of each.
 fn index_parents(
     alloc: Global,
     definitions: &[TableDef],

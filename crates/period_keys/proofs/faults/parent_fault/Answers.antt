@@ -3,9 +3,10 @@ use Rattle.std.specs.Prelude.{IsPermutation}
 use Rattle.period_core.specs.declared.row.PeriodRow.{PeriodRow}
 use Rattle.period_core.specs.declared.version.VersionRow.{VersionRow}
 use Rattle.history_model.specs.Versions.{row_of}
-use Rattle.period_keys.specs.Index.{IsIndexOf}
+use Rattle.period_keys.specs.Index.{AreAtKeys}
 use Rattle.period_keys.specs.Keys.{IsLeastOf, IsUncovered}
 use Rattle.period_keys.specs.Lawful.{own_positions}
+use Rattle.period_keys.specs.LookUps.{periods_by}
 use Rattle.period_keys.proofs.FaultFacts.{least_parent_fault}
 use Rattle.period_keys.proofs.faults.parent_fault.Goals as goal
 
@@ -19,6 +20,6 @@ returns c = λ catalog before change current number child reference parent is pl
     least_parent_fault catalog before change current c.args.plan.now number child reference parent keys referred.below c.in_ok-found.found is planned referred.refers referred.changed referred.other referred.holds (λ stay each split.
     subst (λ (added : List PeriodRow). IsLeastOf (IsUncovered own referred.below keys (stay ++ added)) c.in_ok-found.found) c.as_slice-added.ensures
     (c.in_ok-found.ensures own referred.below rows stay referred.children_indexed
-    (subst (λ (ps : List ℕ). IsIndexOf ps rows c.args.parents.now) (sym is) referred.parents_indexed)
+    (subst (λ (ps : List ℕ). AreAtKeys ps rows (periods_by c.args.parents.now)) (sym is) referred.parents_indexed)
     each
     (subst (λ (ended : List PeriodRow). IsPermutation rows (ended ++ stay)) (sym going) split)))

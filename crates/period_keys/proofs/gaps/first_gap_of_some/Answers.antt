@@ -1,23 +1,24 @@
-use Rattle.std.proofs.Common.{◌≡◌, ◌≤ℤ◌, ◌++◌, ℤ, List, take, subst, arith}
+use Rattle.std.proofs.Common.{◌≡◌, ◌≤ℤ◌, ℤ, List, take, subst, arith}
 use Rattle.std.specs.List.{Any}
 use Rattle.std.proofs.lemmas.Int.{ints, by_lt_z}
 use Rattle.std.proofs.lemmas.List.{take_all}
 use Rattle.period_core.specs.declared.period.Period.{Period}
 use Rattle.period_keys.specs.Keys.{IsLeastOf}
 use Rattle.period_keys.specs.Gaps.{IsGap, IsHeld}
+use Rattle.period_keys.specs.LookUps.{periods_of}
 use Rattle.period_keys.proofs.GapSteps.{IsHeldTo, first_of_more, held_past, known_since}
 use Rattle.period_keys.proofs.Leasts.{least_none, least_with_next}
 use Rattle.period_keys.proofs.gaps.first_gap_of_some.Goals as goal
 
 pub loop-child-init : goal.loop-child-init
 loop-child-init c = record {
-  least = least_none (λ (child : Period) day. IsGap (c.args.first.now ++ c.args.second.now) child day);
+  least = least_none (λ (child : Period) day. IsGap (periods_of c.args.periods.now) child day);
   known = tt;
 }
 
 pub loop-child-preserved : goal.loop-child-preserved
 loop-child-preserved c =
-    let periods : List Period = c.args.first.now ++ c.args.second.now in
+    let periods : List Period = periods_of c.args.periods.now in
     let child : Period = c.child-item.result in
     let from : ℤ = c.day_past-from.result in
     let day : ℤ = c.held_until-day.result in
@@ -37,4 +38,4 @@ loop-child-preserved c =
 
 pub returns : goal.returns
 returns c = let all : take c.loop-child.child-index c.args.children.now ≡ c.args.children.now = take_all _ _ (omega arith) in
-    subst (λ (children : List Period). IsLeastOf (λ day. Any (λ child. IsGap (c.args.first.now ++ c.args.second.now) child day) children) c.loop-child.found) all c.loop-child.invariant.least
+    subst (λ (children : List Period). IsLeastOf (λ day. Any (λ child. IsGap (periods_of c.args.periods.now) child day) children) c.loop-child.found) all c.loop-child.invariant.least

@@ -13,7 +13,7 @@ returns-in-Some-known_at-clause-held c =
     let places : List ℕ = c.deref-other-items.result.now in
     let other : ℕ = get_or places i 0 in
     let there : Contains c.in_ok-places.places.items other = subst (λ (l : List ℕ). Contains l other) c.deref-other-items.ensures.value (Contains-get_or places i 0 c.loop-other-test.true) in
-    let said : AreSaidEqual conditions c.in-Some-checked_add.place other = (c.in_ok-places.ensures other).0 there in
+    let said : AreSaidEqual conditions c.in-Some.place other = (c.in_ok-places.ensures other).0 there in
     let (index, at, its) = c.in-Some-known_at.ensures in
-    known_holds conditions known c.args.start c.args.width c.args.position c.in-Some-known_at.value.now c.in-Some.before index c.in-Some-checked_add.place other
-    (omega (arith, c.in-Some.ensures)) c.if-position-width.false (omega (arith, c.in-Some-checked_add.ensures)) said at its
+    known_holds conditions known c.args.at c.args.start c.args.width c.args.position c.in-Some-known_at.value.now index c.in-Some.place other
+    c.if-position-width.false (omega (arith, c.in-Some.ensures)) said at its

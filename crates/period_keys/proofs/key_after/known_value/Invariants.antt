@@ -5,4 +5,4 @@ use Rattle.period_keys.proofs.key_after.known_value.Given as goal
 
 abbrev pub invariant-loop-other : goal.invariant-loop-other
 invariant-loop-other l =
-    (k d index : ℕ) → k < l.other-index → (value : Value) → l.before + index ≡ get_or l.other-items k d → slice_get l.known index ≡ Some value → ⊥
+    (k d index : ℕ) → k < l.other-index → (value : Value) → l.at + index ≡ get_or l.other-items k d → slice_get l.known index ≡ Some value → ⊥

@@ -16,43 +16,43 @@ loop-position-preserved c =
     let x : ℕ = get_or positions i 0 in
     let key : List Value = c.loop-position.leading.items in
     let value : Value = c.in-Some.value.now in
-    let (fixes, say, long) = c.loop-position.invariant in
-    let its : IsValueAfter conditions c.args.known.now c.args.start c.args.width x value = rw c.in-Some.is at c.in_ok-found.ensures.held in
+    let (fixes, say, as_many) = c.loop-position.invariant in
+    let its : IsValueAfter conditions c.args.known.now c.args.at c.args.start c.args.width x value = rw c.in-Some.is at c.in_ok-found.ensures.held in
     let copied : value ≡ c.in_ok-copy.field-0 = sym c.in_ok-copy.ensures in (
-      λ first values rest before wide met.
+      λ first values rest long wide has met.
           ap (filter_map (slice_get values)) (take_more positions i 0 (omega arith))
           ∙ filter_map-append (slice_get values) (take i positions) (x ∷ [])
-          ∙ ap (λ (k : List Value). k ++ filter_map (slice_get values) (x ∷ [])) (fixes first values rest before wide met)
-          ∙ ap (λ (o : Option Value). key ++ filter_map (λ (x : Option Value). x) (o ∷ [])) (its first values rest before wide met)
+          ∙ ap (λ (k : List Value). k ++ filter_map (slice_get values) (x ∷ [])) (fixes first values rest long wide has met)
+          ∙ ap (λ (o : Option Value). key ++ filter_map (λ (x : Option Value). x) (o ∷ [])) (its first values rest long wide has met)
           ∙ ap (λ (v : Value). key ++ v ∷ []) copied
           ∙ sym c.in_ok-push.ensures.items,
       λ fits.
-          let says : HasValue (SaysAfter conditions c.args.known.now c.args.start c.args.width) x = (value, rw c.in-Some.is at (c.in_ok-found.ensures.said fits)) in
-          All-more (HasValue (SaysAfter conditions c.args.known.now c.args.start c.args.width)) positions i 0 (omega arith) (say fits) says,
-      (let more = length-append key (c.in_ok-copy.field-0 ∷ []) in ap length c.in_ok-push.ensures.items ∙ more ∙ omega (arith, long)),
+          let says : HasValue (SaysAfter conditions c.args.known.now c.args.at c.args.start c.args.width) x = (value, rw c.in-Some.is at (c.in_ok-found.ensures.said fits)) in
+          All-more (HasValue (SaysAfter conditions c.args.known.now c.args.at c.args.start c.args.width)) positions i 0 (omega arith) (say fits) says,
+      (let more = length-append key (c.in_ok-copy.field-0 ∷ []) in ap length c.in_ok-push.ensures.items ∙ more ∙ omega (arith, as_many)),
     )
 
 pub returns-in_default-clause-fixed : goal.returns-in_default-clause-fixed
 returns-in_default-clause-fixed c =
     let (fixes, say, long) = c.loop-position.invariant in
-    subst (λ (n : ℕ). FixesKeyAfter c.args.conditions.now c.args.known.now c.args.start c.args.width (take n c.args.positions.now) c.loop-position.leading.items) (sym long) fixes
+    subst (λ (n : ℕ). FixesKeyAfter c.args.conditions.now c.args.known.now c.args.at c.args.start c.args.width (take n c.args.positions.now) c.loop-position.leading.items) (sym long) fixes
 
 pub returns-in_default-clause-found : goal.returns-in_default-clause-found
 returns-in_default-clause-found c fits =
     let (fixes, say, long) = c.loop-position.invariant in
     let none = rw c.in_default.is at (c.in_ok-found.ensures.said fits) in
-    let Has = HasValue (SaysAfter c.args.conditions.now c.args.known.now c.args.start c.args.width) in
+    let Has = HasValue (SaysAfter c.args.conditions.now c.args.known.now c.args.at c.args.start c.args.width) in
     subst (HoldsOfFirst Has c.args.positions.now) (sym long)
     (stopped Has c.args.positions.now c.loop-position.position-index 0 (omega arith) (say fits) (λ has. none has.0 has.1))
 
 pub returns-clause-fixed : goal.returns-clause-fixed
 returns-clause-fixed c =
     let (fixes, say, long) = c.loop-position.invariant in
-    subst (λ (n : ℕ). FixesKeyAfter c.args.conditions.now c.args.known.now c.args.start c.args.width (take n c.args.positions.now) c.loop-position.leading.items) (sym long) fixes
+    subst (λ (n : ℕ). FixesKeyAfter c.args.conditions.now c.args.known.now c.args.at c.args.start c.args.width (take n c.args.positions.now) c.loop-position.leading.items) (sym long) fixes
 
 pub returns-clause-found : goal.returns-clause-found
 returns-clause-found c fits =
     let (fixes, say, long) = c.loop-position.invariant in
-    let Has = HasValue (SaysAfter c.args.conditions.now c.args.known.now c.args.start c.args.width) in
+    let Has = HasValue (SaysAfter c.args.conditions.now c.args.known.now c.args.at c.args.start c.args.width) in
     subst (HoldsOfFirst Has c.args.positions.now) (sym long)
     (all_hold Has c.args.positions.now c.loop-position.position-index (omega arith) (omega arith) (say fits))

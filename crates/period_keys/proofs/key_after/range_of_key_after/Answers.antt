@@ -6,8 +6,8 @@ use Rattle.period_keys.proofs.Ranged.{led_in_range}
 use Rattle.period_keys.proofs.key_after.range_of_key_after.Goals as goal
 
 pub returns-clause-within : goal.returns-clause-within
-returns-clause-within c first values rest long wide met =
+returns-clause-within c first values rest long wide has met =
     let positions = c.args.positions.now in
     led_in_range c.led_by.result positions values
-    (subst (λ (l : Vec Value). values_at (take (length l.items) positions) values ≡ l.items) (sym c.led_by.ensures.leading) (c.in_ok-leading.ensures.fixed first values rest long wide met))
+    (subst (λ (l : Vec Value). values_at (take (length l.items) positions) values ≡ l.items) (sym c.led_by.ensures.leading) (c.in_ok-leading.ensures.fixed first values rest long wide has met))
     c.led_by.ensures.lower c.led_by.ensures.upper

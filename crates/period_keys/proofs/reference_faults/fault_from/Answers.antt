@@ -4,6 +4,7 @@ use Rattle.catalog_core.specs.declared.table.TableDef.{TableDef}
 use Rattle.history_model.specs.Versions.{row_of}
 use Rattle.period_keys.specs.Keys.{IsLeastOf}
 use Rattle.period_keys.specs.Lawful.{LacksParentBy, Refers, own_positions, parent_positions, state_after}
+use Rattle.period_keys.specs.LookUps.{periods_by}
 use Rattle.period_keys.proofs.ReferenceFacts.{held_by, index_as, indexed_as, planned_over, worked_out}
 use Rattle.period_keys.proofs.reference_faults.fault_from.Goals as goal
 
@@ -34,5 +35,5 @@ returns c = λ catalog before change known refers own_table.
       other = λ same. apart reference.parent c.args.number (known.earlier c.args.number child reference parent refers) (same ∙ sym own_table);
       above = map row_of above.rows;
       holds = above_holds.holds;
-      indexed = index_as c.args.tables.now reference.parent c.from.result keys c.as_slice-3.result.now c.periods_by-parents.result.now above c.from.ensures keys_is above_there c.periods_by-parents.ensures;
+      indexed = index_as c.args.tables.now reference.parent c.from.result keys c.as_slice-3.result.now (periods_by c.periods_by-parents.result) above c.from.ensures keys_is above_there c.periods_by-parents.ensures;
     }))

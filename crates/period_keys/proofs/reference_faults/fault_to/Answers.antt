@@ -4,6 +4,7 @@ use Rattle.catalog_core.specs.declared.table.Reference.{Reference}
 use Rattle.catalog_core.specs.declared.table.TableDef.{TableDef}
 use Rattle.history_model.specs.Versions.{row_of}
 use Rattle.period_keys.specs.Lawful.{own_positions, parent_positions}
+use Rattle.period_keys.specs.LookUps.{periods_by}
 use Rattle.period_keys.proofs.ReferenceFacts.{held_by, index_as, indexed_as, planned_over, worked_out}
 use Rattle.period_keys.proofs.reference_faults.fault_to.Goals as goal
 
@@ -40,6 +41,6 @@ returns c = λ catalog before change known refers changed other.
       other = other;
       below = map row_of below.rows;
       holds = below_holds.holds;
-      children_indexed = index_as c.args.tables.now c.args.number c.args.number own c.as_slice-3.result.now c.periods_by-children.result.now below refl own_is below_there c.periods_by-children.ensures;
-      parents_indexed = index_as c.args.tables.now change.table c.from.result keys c.as_slice-4.result.now c.periods_by-parents.result.now table (c.from.ensures ∙ changed) keys_is there c.periods_by-parents.ensures;
+      children_indexed = index_as c.args.tables.now c.args.number c.args.number own c.as_slice-3.result.now (periods_by c.periods_by-children.result) below refl own_is below_there c.periods_by-children.ensures;
+      parents_indexed = index_as c.args.tables.now change.table c.from.result keys c.as_slice-4.result.now (periods_by c.periods_by-parents.result) table (c.from.ensures ∙ changed) keys_is there c.periods_by-parents.ensures;
     })

@@ -6,13 +6,15 @@ use Rattle.std.proofs.lemmas.List.Sorted.{IsPermutation-append_left, IsPermutati
 use Rattle.period_core.specs.declared.period.Period.{Period}
 use Rattle.temporal_model.proofs.Members.{Contains-here}
 use Rattle.temporal_model.proofs.Rearranged.{IsPermutation-uncons}
+use Rattle.period_keys.specs.LookUps.{periods_of}
 use Rattle.period_keys.proofs.Indexes.{drop_all}
 use Rattle.period_keys.proofs.references.there_after.Goals as goal
 
 pub loop-going-init : goal.loop-going-init
 loop-going-init c = λ stay moved.
     let sorted : List Period = c.in_ok-there.there.items.items in
-    IsPermutation-trans sorted c.args.periods.now (c.args.gone.now ++ stay) (IsPermutation-sym c.args.periods.now sorted c.in_ok-there.ensures) moved
+    let periods : List Period = periods_of c.args.periods.now in
+    IsPermutation-trans sorted periods (c.args.gone.now ++ stay) (IsPermutation-sym periods sorted (subst (λ (list : List Period). IsPermutation list sorted) c.in_ok-collect.ensures c.in_ok-there.ensures)) moved
 
 -- a period of the list was taken out
 less : (r : Bool) (old new rest : List Period) (p : Period) → OnTrue r (IsPermutation old (p ∷ new)) → OnFalse r (Contains old p → ⊥) → IsPermutation old (p ∷ rest) → IsPermutation new rest
