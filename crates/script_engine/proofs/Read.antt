@@ -1,6 +1,6 @@
 -- The rows that are read of a table's versions in memory: those that a reference sees, or that it
 -- needs of them.
-use Rattle.std.proofs.Common.{◌≡◌, ◌++◌, ◌∷◌, ◌∙◌, [], ℕ, ℤ, Bool, List, ap, false, filter, inl, inr, length, map, refl, subst, sym, true}
+use Rattle.std.proofs.Common.{◌≡◌, ◌+◌, ◌++◌, ◌∷◌, ◌∙◌, [], ℕ, ℤ, Bool, List, ap, append_assoc, arith, false, filter, inl, inr, length, length-append, map, refl, subst, sym, true}
 use Rattle.std.specs.Prelude.{IsTrue}
 use Rattle.std.proofs.lemmas.Bool.{false≢true}
 use Rattle.std.specs.List.{Contains}
@@ -17,7 +17,7 @@ use Rattle.catalog_core.specs.declared.query.resolved.QueryReference.{QueryRefer
 use Rattle.history_model.specs.Histories.{History}
 use Rattle.history_model.specs.OrdinaryQuery.{VisibleInHistory, meets_all}
 use Rattle.history_model.specs.Versions.{row_of}
-use Rattle.period_keys.specs.FixedKeys.{IsRangeAfter, IsRangeWithin}
+use Rattle.period_keys.specs.FixedKeys.{HasFrom, IsRangeAfter, IsRangeWithin}
 use Rattle.period_keys.specs.Keys.{values_at}
 use Rattle.period_keys.specs.Ranges.{is_in_range}
 use Rattle.period_keys.specs.Rows.{RowsByKey}
@@ -43,6 +43,11 @@ AreUnruled access positions conjuncts start =
 -- the rows of such versions are added
 abbrev pub AddUnruled : Access → List ℕ → List (Tree CompareValues) → ℕ → List VersionRow → List PeriodRow → List PeriodRow → Type 0
 AddUnruled access positions conjuncts start = AddRead access positions (λ (v : VersionRow). Unit {0}) (λ (v : VersionRow). RulesOut conjuncts start v.values) row_of
+
+-- values at the end of a row have their place in it whatever follows
+row_before : (at : ℕ) (before known first after : List Value) → before ++ known ≡ first → at + length known ≡ length first → HasFrom known at (first ++ after)
+row_before at before known first after its long =
+    (before, after, omega (arith, sym (length-append before known) ∙ ap length its, long), sym (append_assoc before known after) ∙ ap (λ (l : List Value). l ++ after) its)
 
 -- without conditions and over all keys they are those that the window sees
 pub unruled_all : (access : Access) (positions : List ℕ) (all some : List VersionRow) → ((key : List Value) → is_in_range access.range key ≡ true) → AreUnruled access positions [] 0 all some → some ≡ seen_through access.window all
@@ -121,9 +126,9 @@ module _ (history : History) (tables : List RowsByKey) (lists : List (List Packe
     }
 
     -- after one row more, those of the keys that its values leave are looked up too
-    pub read_after : (previous : List PeriodRow) (row : PeriodRow) (rows new : List PeriodRow) → SeesWidth history reference width → IsRangeAfter conjuncts row.values start width positions access.range → new ≡ rows ++ map row_of some →
+    pub read_after : (previous : List PeriodRow) (row : PeriodRow) (rows new : List PeriodRow) (at : ℕ) → SeesWidth history reference width → at + length row.values ≡ start → IsRangeAfter conjuncts row.values at start width positions access.range → new ≡ rows ++ map row_of some →
         IsPrunedAfter (EndInRow previous) conjuncts start (λ day. VisibleInHistory history day reference) rows → IsPrunedAfter (EndInRow (previous ++ row ∷ [])) conjuncts start (λ day. VisibleInHistory history day reference) new
-    read_after previous row rows new wide within is old = record {
+    read_after previous row rows new at wide known_end within is old = record {
       sound = λ day values h. elim ((holds-append rows (map row_of some) day values).0 (subst (λ (l : List PeriodRow). InSnapshot l day values) is h)) [
         | inl was ↦ old.sound day values was
         | inr here ↦ read_sound day values here
@@ -134,7 +139,7 @@ module _ (history : History) (tables : List RowsByKey) (lists : List (List Packe
             | inl was ↦ inl (old.complete day first values rest long (before, last, was, split) sees met)
             | inr (same, from, to) ↦ let its : before ++ row.values ≡ first = ap (λ (l : List Value). before ++ l) same ∙ split in
                 inr (read_whole day first values rest long sees met
-                (within before values rest (ap length its ∙ long) (wide day values sees) (subst (λ (l : List Value). meets_all conjuncts (l ++ (values ++ rest)) ≡ true) (sym its) met)))
+                (within first values rest long (wide day values sees) (row_before at before row.values first (values ++ rest) its (known_end ∙ sym long)) met))
           ]));
     }
 

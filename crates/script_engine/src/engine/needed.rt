@@ -126,7 +126,10 @@ fn looked_up(
     let mut rows = Vec::new(alloc);
     for row in previous {
         let known = row.values.as_slice();
-        let range = range_of_key_after(alloc, conjuncts, known, start, width, positions)?;
+        let Some(at) = start.checked_sub(known.len()) else {
+            return Ok(None);
+        };
+        let range = range_of_key_after(alloc, conjuncts, known, at, start, width, positions)?;
         let is_narrower = fixed_values(&range, positions) > fixed;
         let access = Access::of(reference, range);
         let is_once = reference.window == Window::Now || previous.len() == 1;

@@ -1,4 +1,4 @@
-use Rattle.std.proofs.Common.{◌≡◌, ◌+◌, ◌++◌, ◌∷◌, ◌∙◌, [], List, ap, map, refl, subst, sym, take}
+use Rattle.std.proofs.Common.{◌≡◌, ◌+◌, ◌++◌, ◌∷◌, ◌∙◌, [], List, ap, arith, length, map, refl, subst, sym, take}
 use Rattle.std.proofs.lemmas.List.{take_all, take_more}
 use Rattle.history_model.specs.OrdinaryQuery.{VisibleInHistory}
 use Rattle.period_core.specs.declared.row.PeriodRow.{PeriodRow}
@@ -36,10 +36,13 @@ loop-row-preserved c =
     let new : List PeriodRow = c.read_chained.new.rows.items in
     let next : take (i + 1) previous ≡ take i previous ++ row ∷ [] =
     take_more previous i row c.loop-row-test.true ∙ ap (λ (r : PeriodRow). take i previous ++ r ∷ []) (sym c.row-item.is) in
-    let within : IsRangeAfter conjuncts row.values start width (positions_in tables reference.table) access.range =
-    subst (λ range. IsRangeAfter conjuncts row.values start width (positions_in tables reference.table) range) (sym c.of-access.ensures.range)
-    (subst (λ positions. IsRangeAfter conjuncts row.values start width positions c.in_ok-range.range) c.positions_of_number-positions.ensures
-    (subst (λ (values : List Value). IsRangeAfter conjuncts values start width c.positions_of_number-positions.result.now c.in_ok-range.range) c.as_slice-known.ensures c.in_ok-range.ensures.within)) in
+    let at = c.in-Some.at in
+    let known_end : at + length row.values ≡ start =
+    subst (λ (values : List Value). at + length values ≡ start) c.as_slice-known.ensures (omega (arith, c.in-Some.ensures)) in
+    let within : IsRangeAfter conjuncts row.values at start width (positions_in tables reference.table) access.range =
+    subst (λ range. IsRangeAfter conjuncts row.values at start width (positions_in tables reference.table) range) (sym c.of-access.ensures.range)
+    (subst (λ positions. IsRangeAfter conjuncts row.values at start width positions c.in_ok-range.range) c.positions_of_number-positions.ensures
+    (subst (λ (values : List Value). IsRangeAfter conjuncts values at start width c.positions_of_number-positions.result.now c.in_ok-range.range) c.as_slice-known.ensures c.in_ok-range.ensures.within)) in
     record {
       same = c.read_chained.ensures.same ∙ c.loop-row.invariant.same;
       needed = λ history represents wide.
@@ -47,7 +50,7 @@ loop-row-preserved c =
           let (some, read, made) = its_read history tables lists reference its access conjuncts start old new c.of-access.ensures.table c.in_ok-read_chained.ensures.read in
           subst (λ (rows : List PeriodRow). IsPrunedAfter (EndInRow rows) conjuncts start (λ day. VisibleInHistory history day reference) new) (sym next)
           (read_after history tables lists reference its conjuncts start width access (positions_in tables reference.table) some c.of-access.ensures.window read
-          (take i previous) row old new wide within made (c.loop-row.invariant.needed history represents wide));
+          (take i previous) row old new at wide known_end within made (c.loop-row.invariant.needed history represents wide));
     }
 
 pub returns-clause-needed : goal.returns-clause-needed
