@@ -28,12 +28,3 @@ any_weaker p q weaker (x ∷ xs) some =
 
 pub none_stronger : {X : Type 0} (p q : X → Bool) → ((x : X) → p x ≡ true → q x ≡ true) → (xs : List X) → list_any q xs ≡ false → list_any p xs ≡ false
 none_stronger p q weaker xs none = false_from_ne_true (list_any p xs) (λ some. false≢true (sym none ∙ any_weaker p q weaker xs some))
-
--- the consequence that each passing element has
-pub any_gives : {X : Type 0} (p : X → Bool) (b : Bool) → ((x : X) → p x ≡ true → b ≡ true) → (xs : List X) → list_any p xs ≡ true → b ≡ true
-any_gives p b gives [] some = absurd (false≢true some)
-any_gives p b gives (x ∷ xs) some =
-    (elim (p x) as (λ v. p x ≡ v → (v || list_any p xs) ≡ true → b ≡ true) [
-      | true ↦ (λ e s. gives x e)
-      | false ↦ (λ e s. any_gives p b gives xs s)
-    ]) refl some
