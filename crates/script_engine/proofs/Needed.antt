@@ -1,5 +1,5 @@
 -- Needed rows of those that references see are enough: a query gives the same of them.
-use Rattle.std.proofs.Common.{◌≡◌, ◌↔◌, ◌&&◌, ◌==◌, ◌+◌, ◌++◌, ◌∷◌, ◌∙◌, ℕ, ℤ, Bool, true, List, [], append_assoc, append-nil, arith, eqb-true, filter, length, length-append, map, refl, Some, sym, ap, subst, take, inl, inr}
+use Rattle.std.proofs.Common.{◌≡◌, ◌↔◌, ◌&&◌, ◌==◌, ◌+◌, ◌++◌, ◌∷◌, ◌∙◌, ℕ, ℤ, Bool, true, List, [], append_assoc, append-nil, arith, eqb-true, length, length-append, map, refl, Some, sym, ap, subst, take, inl, inr}
 use Rattle.std.specs.Prelude.{◌-◌, ◌<◌, slice_get, slice_index_or}
 use Rattle.std.specs.List.{AllByRecursion, Contains, list_all}
 use Rattle.std.specs.List.Sorted.{IsPermutation}
@@ -13,11 +13,9 @@ use Rattle.period_core.specs.Windows.{window_sees}
 use Rattle.period_core.specs.declared.row.PeriodRow.{PeriodRow}
 use Rattle.period_core.specs.declared.value.Value.{Value}
 use Rattle.period_core.specs.declared.version.VersionRow.{VersionRow}
-use Rattle.period_core.specs.declared.window.Window.{Window}
-use Rattle.period_core.specs.declared.window.Window.TheVariants.{Now}
 use Rattle.temporal_model.specs.Snapshot.{Equivalent, InSnapshot}
 use Rattle.temporal_model.proofs.Members.{Contains-cons_cases, Contains-nil}
-use Rattle.temporal_model.proofs.Snapshots.{InSnapshot-start, held, in_snapshot}
+use Rattle.temporal_model.proofs.Snapshots.{InSnapshot-start, held}
 use Rattle.sql_statements.specs.declared.tree.SetOperator.{SetOperator}
 use Rattle.sql_statements.specs.declared.tree.SetOperator.TheVariants.{Except, Intersect, Union}
 use Rattle.sql_statements.specs.declared.tree.Tree.{Tree}
@@ -31,27 +29,18 @@ use Rattle.catalog_core.specs.table.TableWords.{table_of, value_columns}
 use Rattle.history_model.specs.Histories.{History}
 use Rattle.history_model.specs.OrdinaryQuery.{VisibleInHistory, InCombined, InProduct, InQuery, VisibleInTables, meets_all}
 use Rattle.history_model.specs.Versions.{row_of}
-use Rattle.sequenced_ops.specs.Planning.{IsPruned}
-use Rattle.sequenced_ops.proofs.TwoRows.{holds-append, holds-nil, holds-push}
-use Rattle.period_keys.specs.declared.key_range.KeyRange.{KeyRange}
-use Rattle.period_keys.specs.FixedKeys.{IsRangeAfter, IsRangeWithin}
-use Rattle.period_keys.specs.Keys.{values_at}
-use Rattle.period_keys.specs.Rows.{RowsByKey, rows_within}
-use Rattle.period_keys.specs.Ranges.{is_in_range}
-use Rattle.period_keys.specs.Versions.{has_key_in}
-use Rattle.period_keys.proofs.Members.{from_filter, from_map, in_filter, in_map}
+use Rattle.period_keys.proofs.Members.{from_filter, from_map, in_map}
 use Rattle.version_store.specs.Contents.{Contents, TableVersion, of_table, version_in}
 use Rattle.version_store.specs.GoodStore.{AreGood, IsGoodVersion, NoExtraCondition}
 use Rattle.version_store.specs.RowValues.{are_of_columns, is_of_column}
 use Rattle.version_store.specs.Scans.{seen_of}
 use Rattle.ended_versions.specs.Packed.{seen_through}
 use Rattle.script_engine.specs.engine.Answering.{AreRowsSeen, IsKnown, IsOfCatalog, SeesRows}
-use Rattle.script_engine.specs.engine.InMemory.{HaveCurrentRows, rows_in}
 use Rattle.script_engine.specs.engine.Needed.{AddNeeded, EndInRow, InRows, IsNeeded, IsNeededAfter, IsNeededBy, IsPrunedAfter, SeeNeeded, SeesWidth}
 use Rattle.script_engine.specs.engine.Stored.{AreOfHistory}
 use Rattle.script_engine.proofs.Answering.{at_length}
 use Rattle.script_engine.proofs.Fits.{all_are, each_among, rows_fit}
-use Rattle.script_engine.proofs.Seen.{current_seen, sees_rows}
+use Rattle.script_engine.proofs.Seen.{sees_rows}
 
 abbrev Conditions : Type 0
 Conditions = List (Tree CompareValues)

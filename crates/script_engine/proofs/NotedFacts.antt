@@ -11,7 +11,6 @@ use Rattle.std.proofs.lemmas.List.Sorted.{length_permutation}
 use Rattle.sqlite_trees.proofs.ListLemmas.{IsPermutation-filter, filter-map}
 use Rattle.period_core.specs.Moments.{forever}
 use Rattle.period_core.specs.declared.refusal.Refusal.{Refusal}
-use Rattle.period_core.specs.declared.version.VersionRow.{VersionRow}
 use Rattle.sql_front.specs.Grammar.{IsStatement}
 use Rattle.sql_front.proofs.Spelling.{spells_one}
 use Rattle.sql_statements.specs.Lexemes.{Lexeme}
@@ -47,7 +46,6 @@ use Rattle.script_engine.proofs.EndedAfter.{ended_rows}
 use Rattle.script_engine.proofs.Steps.{tables_of}
 use Rattle.statement_reports.specs.declared.outcome.Outcome.{Outcome}
 use Rattle.statement_reports.specs.declared.outcome.Outcome.TheVariants.{Done}
-use Rattle.statement_reports.specs.declared.outcome.Word.TheVariants as word
 
 -- ---- the versions that a change touches, after it
 

@@ -1,6 +1,6 @@
 -- The rows that are read of a table's versions in memory: those that a reference sees, or that it
 -- needs of them.
-use Rattle.std.proofs.Common.{◌≡◌, ◌+◌, ◌++◌, ◌∷◌, ◌∙◌, [], ℕ, ℤ, Bool, List, ap, append_assoc, arith, false, filter, inl, inr, length, length-append, map, refl, subst, sym, true}
+use Rattle.std.proofs.Common.{◌≡◌, ◌+◌, ◌++◌, ◌∷◌, ◌∙◌, [], ℕ, ℤ, List, ap, append_assoc, arith, inl, inr, length, length-append, map, refl, subst, sym, true}
 use Rattle.std.specs.Prelude.{IsTrue}
 use Rattle.std.proofs.lemmas.Bool.{false≢true}
 use Rattle.std.specs.List.{Contains}
@@ -21,7 +21,7 @@ use Rattle.period_keys.specs.FixedKeys.{HasFrom, IsRangeAfter, IsRangeWithin}
 use Rattle.period_keys.specs.Keys.{values_at}
 use Rattle.period_keys.specs.Ranges.{is_in_range}
 use Rattle.period_keys.specs.Rows.{RowsByKey}
-use Rattle.period_keys.specs.Versions.{has_key_in, version_key}
+use Rattle.period_keys.specs.Versions.{version_key}
 use Rattle.period_keys.proofs.Members.{from_filter, from_map, in_filter, in_map}
 use Rattle.ended_versions.specs.Packed.{Hold, PackedVersion, seen_through}
 use Rattle.sequenced_ops.specs.Planning.{RulesOut}

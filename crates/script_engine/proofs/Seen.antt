@@ -32,10 +32,6 @@ use Rattle.script_engine.proofs.Recorded.{recorded_of}
 
 -- ---- the stored rows are what the window sees
 
--- the current rows in memory are the rows that a reference without a window sees
-pub current_seen : (c : Contents) (tables : List RowsByKey) (number : ℕ) (rows : List PeriodRow) → HaveCurrentRows c tables → rows ≡ map row_of (rows_in tables number) → AreRowsSeen c number Now rows
-current_seen c tables number rows current are = record { versions = rows_in tables number; all = current.rows number; made = are }
-
 -- all versions of a table are in memory: the current ones, and those that have ended
 pub all_in_memory :
     (c : Contents) (tables : List RowsByKey) (number : ℕ) (list : List PackedVersion) (current : HaveCurrentRows c tables) (ended : HasEnded c number list)

@@ -1,4 +1,4 @@
-use Rattle.std.proofs.Common.{◌≡◌, ◌++◌, List, append-nil, map, reverse, subst, sym}
+use Rattle.std.proofs.Common.{List, append-nil, map, reverse, subst, sym}
 use Rattle.ended_versions.specs.Packed.{Hold, PackedVersion}
 use Rattle.period_core.specs.declared.version.VersionRow.{VersionRow}
 use Rattle.period_keys.specs.Current.{rows_by_key}

@@ -2,7 +2,7 @@ use Rattle.std.proofs.Common.{◌≡◌, ◌++◌, ◌∷◌, [], ◌∙◌, Lis
 use Rattle.std.proofs.lemmas.List.{map-append, nil_from_length}
 use Rattle.period_core.specs.declared.version.VersionRow.{VersionRow}
 use Rattle.script_engine.specs.engine.Reading.{AreTaken, left, none, taken}
-use Rattle.script_engine.proofs.Taken.{AreSeen, selected_seen, taken_both}
+use Rattle.script_engine.proofs.Taken.{selected_seen, taken_both}
 use Rattle.script_engine.proofs.engine.reading.read_list.Goals as goal
 
 pub loop-version-init : goal.loop-version-init
