@@ -67,7 +67,7 @@ module _ (history : History) (tables : List RowsByKey) (lists : List (List Packe
   abbrev pub its_versions : List VersionRow
   its_versions = versions_in tables reference.table (represents.ended reference.table).versions
 
-  -- what a reading adds, of the versions of its table
+  -- a reading adds versions of its table alone
   pub its_read : (access : Access) (conjuncts : List (Tree CompareValues)) (start : ℕ) (rows new : List PeriodRow) → access.table ≡ reference.table →
       ((versions : List VersionRow) → Hold (ended_in lists access.table) versions → AddUnruled access (positions_in tables access.table) conjuncts start (versions_in tables access.table versions) rows new) →
       AddUnruled access (positions_in tables reference.table) conjuncts start its_versions rows new

@@ -48,7 +48,7 @@ all_in_memory c tables number list current ended =
     IsPermutation-trans versions (map (version_in number) (now ++ ended.versions)) (map (version_in number) (now ++ reverse ended.versions)) both
     (IsPermutation-map (version_in number) (now ++ ended.versions) (now ++ reverse ended.versions) (IsPermutation-append_right now ended.versions (reverse ended.versions) (IsPermutation-reverse ended.versions)))
 
--- those of them that a window sees are all that it sees
+-- of the versions in memory a window sees all that it sees
 pub memory_seen :
     (c : Contents) (tables : List RowsByKey) (number : ℕ) (list : List PackedVersion) (window : Window) (current : HaveCurrentRows c tables) (ended : HasEnded c number list)
     → AreRowsSeen c number window (map row_of (seen_through window (versions_in tables number ended.versions)))

@@ -52,7 +52,7 @@ all_rows table versions rows memory all are =
     (IsPermutation-trans (map (version_in table) rows) (of_table table versions) (map (version_in table) memory)
     (IsPermutation-sym (of_table table versions) (map (version_in table) rows) all) are)
 
--- what the query shows of all versions in memory, in order, is what it shows
+-- of all versions in memory, in order, the query shows all that it shows
 pub shown_of_memory : (c : Contents) (query : Stored) (all shown : List VersionRow) → IsPermutation (of_table query.table c.versions) (map (version_in query.table) all) →
     IsPermutation (shown_versions query all) shown → IsSorted rows.version_cmp shown → AreShownIn c query shown
 shown_of_memory c query all shown memory same sorted versions stored = record {

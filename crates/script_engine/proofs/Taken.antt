@@ -23,7 +23,7 @@ taken_both IsTaken MayLack none two = two
 taken_both IsTaken MayLack (taken is one) two = taken is (taken_both IsTaken MayLack one two)
 taken_both IsTaken MayLack (left may one) two = left may (taken_both IsTaken MayLack one two)
 
--- those that pass a test
+-- a selection by a test takes the elements that pass it
 pub taken_by : {X : Type 0} (IsTaken MayLack : X → Type 0) (test : X → Bool) → ((x : X) → test x ≡ true → IsTaken x) → ((x : X) → test x ≡ false → MayLack x) → (xs : List X) → AreTaken IsTaken MayLack xs (filter test xs)
 taken_by IsTaken MayLack test take lack [] = none
 taken_by {X} IsTaken MayLack test take lack (x ∷ xs) = go (test x) refl (taken_by IsTaken MayLack test take lack xs)
@@ -120,7 +120,7 @@ module _ (access : Access) (positions : List ℕ) (versions : List VersionRow) w
       (taken_by (IsRead access (λ (v : VersionRow). Unit {0})) (MayBeUnread access positions (λ (v : VersionRow). ⊥)) (λ (v : VersionRow). window_sees access.window v.from v.to)
       (λ v is. (is, tt)) (λ v unseen. inl unseen) (reverse versions))
 
-  -- those that may have a key, if each key in the range is this one
+  -- versions that may have a key are read, if each key in the range is this one
   pub key_seen : (key : List Value) → ((v : VersionRow) → has_key_in positions access.range v ≡ true → version_key positions v ≡ key) → AreSeen (reverse (filter (shares_hash positions key) (seen_through access.window versions)))
   key_seen key whole =
       subst AreSeen (filter-reverse (shares_hash positions key) (seen_through access.window versions))
@@ -133,7 +133,7 @@ module _ (access : Access) (positions : List ℕ) (versions : List VersionRow) w
       outside v other false is = refl
       outside v other true is = absurd (false≢true (sym other ∙ eq-eqb (hash_at positions v) (hash_of key) (ap hash_of (whole v is))))
 
--- those of them that a selection takes
+-- of the versions that a window sees, a selection takes some
 pub selected_seen : {R : Type 0} (access : Access) (positions : List ℕ) (IsTaken MayLack : VersionRow → Type 0) (made : VersionRow → R) (versions seen some : List VersionRow) (rows new : List R) →
     AreSeen access positions versions seen → AreTaken IsTaken MayLack seen some → new ≡ rows ++ map made some → AddRead access positions IsTaken MayLack made (reverse versions) rows new
 selected_seen access positions IsTaken MayLack made versions seen some rows new are read is = (

@@ -1,6 +1,7 @@
 -- Faults of the parts of an UPDATE, a DELETE or a stored query, judged against their
 -- table. A column or a period is named by its own name, with or without the table's name before it.
-use Rattle.std.specs.Prelude.{◌&&◌, Bool, true, not, List, Option, Some, None, bytes_eq, count_by, int_le}
+use Rattle.std.specs.Prelude.{◌&&◌, Bool, true, not, List, Option, Some, None, bytes_eq, count_by}
+use Rattle.std.specs.Prelude.{int_le}
 use Rattle.std.specs.List.{list_any}
 use Rattle.sql_statements.specs.Trees.{Condition}
 use Rattle.sql_statements.specs.declared.statement.Assignment.{Assignment}

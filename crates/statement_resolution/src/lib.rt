@@ -6,8 +6,8 @@
 //! - a form of change or query: its conditions and what it is by positions in the folder of that
 //! name in `specs/`, and a file like `change/portion_changes.rt` or `query/resolution.rt`;
 //! - a refusal of a statement: of INSERT the list of its conditions (`insert_conditions`) and the
-//!   function that judges them (`shape_fault`, `value_fault`), both in ascending order; of the other
-//!   forms one of `Faults`, in `fault_conditions` and `Faults::first` in ascending order, and the
+//!   function that judges them (`shape_fault`, `value_fault`), both in ascending order; of another
+//!   form one of `Faults`, in `fault_conditions` and `Faults::first` in ascending order, and the
 //!   faults of the part that may have it. The refusals of CREATE TABLE are in `catalog_core`;
 //! - a test of a condition: its faults and its positions in its `Resolver` (`comparison.rt`,
 //!   `stored/conditions.rt`), as `specs/TableFaults`, `specs/Positions` and

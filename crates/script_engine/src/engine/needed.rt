@@ -66,8 +66,8 @@ fn width_of_number(catalog: &Catalog, number: u8) -> usize
 /// The most rows after each of which the rows of the next reference are looked up.
 const FEW: usize = 16;
 
-/// The most rows that are looked up before one row more of the earlier ones is looked at. Several can
-/// have the same key, so that without it more rows might be copied than the table has.
+/// The most rows that are looked up before one row more of the earlier ones is looked at. Several
+/// can have one key, so that without it more rows might be copied than the table has.
 const MANY: usize = 4_096;
 
 /// The number of values at these positions of a key, from the first on, that the range fixes.

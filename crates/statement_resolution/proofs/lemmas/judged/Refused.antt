@@ -28,7 +28,7 @@ none_applies f none = none_first (fault_conditions f) (ascending f) (ap (λ (g :
 pub clear_if_none : (f : Faults) → NoneApplies (Holds (fault_conditions f)) → f ≡ no_faults
 clear_if_none f none = clear_of f (are_false (fault_conditions f) none)
 
--- what was found is all that the statement has
+-- the faults that were found are all that the statement has
 module _ (found f : Faults) (same : found ≡ f) where
   pub refused_by : (refusal : Refusal) → first_holding (fault_conditions found) ≡ Some refusal → IsLeast (Holds (fault_conditions f)) refusal
   refused_by refusal first = first_refused f refusal (sym (ap (λ (g : Faults). first_holding (fault_conditions g)) same) ∙ first)

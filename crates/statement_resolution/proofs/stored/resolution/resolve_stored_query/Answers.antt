@@ -18,7 +18,7 @@ returns-in_default-clause-refused c =
     let statement = plain_stored c.args.query.now in
     inl (least_missing _ (ap (λ (f : Faults). f.table) (missing (λ t. stored_faults t statement) c.args.catalog.now.tables statement.table c.in_default.ensures)))
 
--- what is found in the condition is all that the statement has
+-- the faults that are found in the condition are all that the statement has
 judged : (tables : List TableDef) (s : Stored) (t : TableDef) (none found : Faults) → table_of_name tables s.table ≡ Some t → none ≡ no_faults → found ≡ either none (stored_faults t s)
     → found ≡ named_faults (λ x. stored_faults x s) tables s.table
 judged tables s t none found there clean of_where =
