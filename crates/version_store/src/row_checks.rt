@@ -1,16 +1,16 @@
 //! The rows of the three tables, judged.
 
-ghost use Rattle.std.specs.Prelude.{◌≡◌, ◌≤◌, ◌<◌, ℕ, ℤ, List, [], IfErr, IfOk, OnOk, true};
+ghost use Rattle.std.specs.Prelude.{◌≡◌, ◌⊎◌, ◌≤◌, ◌<◌, ℕ, ℤ, List, [], IfErr, IfOk, OnOk, true};
 ghost use Rattle.std.specs.Prelude.{length};
+ghost use Rattle.std.specs.List.{AllByRecursion};
 ghost use Rattle.catalog_core.specs.Limits.{most_tables};
 ghost use Rattle.catalog_core.specs.table.TableWords.{has_date_period, has_distinct_names};
-ghost use Rattle.period_core.specs.declared.version.VersionRow.{VersionRow as AnyRow};
 ghost use Rattle.catalog_core.specs.declared.table.TableDef.{TableDef as AnyTable};
 ghost use Rattle.version_tables.specs.declared.form.Form.{Form as AnyForm};
 ghost use Rattle.version_store.specs.Contents.{HasMore, rows_of_table};
 ghost use Rattle.version_store.specs.Faults.{IsJudgement};
-ghost use Rattle.version_store.specs.GoodStore.{AreDefinitions, AreTables, IsReadAs, IsTableRow};
-ghost use Rattle.version_store.specs.GoodStore.{IsVersionRow};
+ghost use Rattle.version_store.specs.GoodStore.{AreReadAs, AreTables, IsReadAs, IsTableRow};
+ghost use Rattle.version_store.specs.GoodStore.{AreStoreRows, IsVersionRow};
 ghost use Rattle.version_store.specs.declared.fault.OpenFault.TheVariants.{BadStore};
 
 use crate::fault::OpenFault;
@@ -105,7 +105,7 @@ fn check_version(
 }
 
 /// Makes `count` lists without rows.
-pub(crate) fn no_rows(alloc: Global, count: usize) -> Result<Vec<Items<VersionRow>>, Memory>
+fn no_rows(alloc: Global, count: usize) -> Result<Vec<Items<VersionRow>>, Memory>
     ensures count { IfOk result (λ lists. length lists.items ≡ count) }
     ensures none { IfOk result (λ lists. (number : ℕ) → rows_of_table lists.items number ≡ []) }
 {
@@ -127,45 +127,52 @@ fn push_row(lists: &mut Vec<Items<VersionRow>>, number: u8, row: VersionRow) -> 
     list.push(row)
 }
 
-/// Judges the row of a version, and adds what it is read as to the list of its table.
-pub(crate) fn read_row(
+/// Judges the rows of the versions, each of which is dropped as soon as it is read. On `Ok` it has
+/// what they are read as: the version rows of each table.
+fn check_versions(
     alloc: Global,
     form: Form,
     catalog: &Catalog,
     clock: i64,
-    row: &Row,
-    lists: &mut Vec<Items<VersionRow>>,
-) -> Result<(), OpenFault>
-    requires { length lists.old.items ≡ length catalog.now.tables }
-    ensures read { OnOk result ((number : ℕ) × (read : AnyRow)
-        × IsReadAs form catalog.now.tables clock row.now number read
-        × HasMore number read lists.old.items lists.new.items) }
+    rows: Vec<Row>,
+) -> Result<Vec<Items<VersionRow>>, OpenFault>
+    ensures good { IfOk result
+        (λ _. AllByRecursion (IsVersionRow form catalog.now.tables clock) rows.items) }
+    ensures read { IfOk result
+        (λ lists. AreReadAs form catalog.now.tables clock rows.items lists.items) }
     ensures bad { IfErr result (λ fault. fault ≡ BadStore
-        → ¬ IsVersionRow form catalog.now.tables clock row.now) }
+        → ¬ AllByRecursion (IsVersionRow form catalog.now.tables clock) rows.items) }
     ensures named { IfErr result IsJudgement }
 {
-    let (number, version) = check_version(alloc, form, catalog, clock, row)?;
-    push_row(lists, number, version)?;
-    Ok(())
+    let mut lists = no_rows(alloc, catalog.len())?;
+    for row in rows {
+        let (number, version) = check_version(alloc, form, catalog, clock, &row)?;
+        push_row(&mut lists, number, version)?;
+    }
+    Ok(lists)
 }
 
-/// Judges the rows of bt_meta and bt_table. On `Ok` it has the tables, the form and the clock, a
-/// number in the form's unit.
-pub(crate) fn check_definitions(
+/// Judges the rows of the three tables. On `Ok` it has the tables, the form, the clock, a number
+/// in the form's unit, and the version rows of each table.
+pub(crate) fn check_rows(
     alloc: Global,
     metas: &[Row],
     tables: &[Row],
-) -> Result<(Catalog, Form, i64), OpenFault>
-    ensures good { IfOk result
-        (λ found. AreDefinitions metas.now tables.now found.0.tables found.1 found.2) }
+    versions: Vec<Row>,
+) -> Result<(Catalog, Form, i64, Vec<Items<VersionRow>>), OpenFault>
+    ensures good { IfOk result (λ found.
+        AreStoreRows metas.now tables.now versions.items found.0.tables found.1 found.2) }
+    ensures read { IfOk result (λ found.
+        AreReadAs found.1 found.0.tables found.2 versions.items found.3.items) }
     ensures bad { IfErr result (λ fault. fault ≡ BadStore
         → (known : List AnyTable) (form : AnyForm) (clock : ℤ)
-        → ¬ AreDefinitions metas.now tables.now known form clock) }
+        → ¬ AreStoreRows metas.now tables.now versions.items known form clock) }
     ensures named { IfErr result IsJudgement }
 {
     let Some((form, clock)) = clock_of(metas) else {
         return Err(OpenFault::BadStore);
     };
     let catalog = read_tables(alloc, tables)?;
-    Ok((catalog, form, clock))
+    let lists = check_versions(alloc, form, &catalog, clock, versions)?;
+    Ok((catalog, form, clock, lists))
 }
