@@ -2,7 +2,8 @@
 
 ghost use Rattle.std.specs.Prelude.{◌≡◌};
 ghost use Rattle.std.specs.Option.{option_copied};
-ghost use Rattle.catalog_core.specs.Conditions.{allows, compares, meets, side_value};
+ghost use Rattle.sql_statements.specs.Plain.{plain_condition};
+ghost use Rattle.catalog_core.specs.Conditions.{allows, is_satisfied, meets, side_value};
 
 use period_core::Value;
 use sql_statements::{Comparison, Tree};
@@ -50,47 +51,69 @@ fn value_of<'a>(side: &'a Comparand, values: &'a [Value]) -> Option<&'a Value>
     }
 }
 
-/// Whether the comparison holds of the row's values.
-pub fn compares(test: &CompareValues, values: &[Value]) -> bool
-    ensures { result ≡ compares values.now test.now }
-{
-    let Some(left) = value_of(&test.left, values) else {
-        return false;
-    };
-    let Some(right) = value_of(&test.right, values) else {
-        return false;
-    };
-    is_allowed(test.comparison, left.cmp(right))
+/// A row or a version, of which a test may hold.
+pub trait Subject<T>: Copy {
+    ghost use Rattle.std.specs.Prelude.{Bool};
+
+    /// Whether a test holds.
+    ghost passed: { Self → T → Bool };
+
+    /// Whether a test holds.
+    fn passes(self, test: &T) -> bool
+        ensures { result ≡ passed self test.now };
 }
 
-/// Whether the condition holds of the row's values. It takes no memory.
-pub fn holds(condition: &Cond, values: &[Value]) -> bool
-    ensures { result ≡ meets condition.now values.now }
+impl<'a> Subject<CompareValues> for &'a [Value] {
+    ghost use Rattle.catalog_core.specs.Conditions.{compares};
+
+    ghost passed = { λ values. compares values.now };
+
+    fn passes(self, test: &CompareValues) -> bool {
+        let Some(left) = value_of(&test.left, self) else {
+            return false;
+        };
+        let Some(right) = value_of(&test.right, self) else {
+            return false;
+        };
+        is_allowed(test.comparison, left.cmp(right))
+    }
+}
+
+/// Whether the condition holds of the subject. It takes no memory.
+pub fn satisfies<T, S: Subject<T>>(condition: &Tree<T>, subject: S) -> bool
+    ensures { result ≡ is_satisfied (S.passed subject) (plain_condition condition.now) }
 {
     match condition {
         Tree::Or(first, others) => {
-            if holds(first, values) {
+            if satisfies(first, subject) {
                 return true;
             }
             for part in others {
-                if holds(part, values) {
+                if satisfies(part, subject) {
                     return true;
                 }
             }
             false
         }
         Tree::And(first, others) => {
-            if !holds(first, values) {
+            if !satisfies(first, subject) {
                 return false;
             }
             for part in others {
-                if !holds(part, values) {
+                if !satisfies(part, subject) {
                     return false;
                 }
             }
             true
         }
-        Tree::Not(part) => !holds(part, values),
-        Tree::Test(test) => compares(test, values),
+        Tree::Not(part) => !satisfies(part, subject),
+        Tree::Test(test) => subject.passes(test),
     }
+}
+
+/// Whether the condition holds of the row's values. It takes no memory.
+pub fn holds(condition: &Cond, values: &[Value]) -> bool
+    ensures { result ≡ meets condition.now values.now }
+{
+    satisfies(condition, values)
 }

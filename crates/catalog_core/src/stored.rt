@@ -1,12 +1,9 @@
 //! Stored queries with positions in place of names, and the versions that they show.
 
 ghost use Rattle.std.specs.Prelude.{◌≡◌};
-ghost use Rattle.sql_statements.specs.Plain.{plain_condition};
-ghost use Rattle.catalog_core.specs.Conditions.{is_satisfied};
-ghost use Rattle.catalog_core.specs.stored.StoredAnswers.{is_shown, passes_test, relates};
-ghost use Rattle.catalog_core.specs.stored.StoredAnswers.{side_period};
+ghost use Rattle.catalog_core.specs.stored.StoredAnswers.{is_shown, relates, side_period};
 
-use crate::condition::{CompareValues, compares};
+use crate::condition::{CompareValues, Subject, satisfies};
 use period_core::{Day, Period, VersionRow, Window};
 use sql_statements::{PeriodPredicate, Tree};
 
@@ -59,50 +56,21 @@ fn relates(predicate: PeriodPredicate, left: Period, right: Period) -> bool
     }
 }
 
-/// Whether a test holds of a version.
-fn passes(test: &VersionTest, version: &VersionRow) -> bool
-    ensures { result ≡ passes_test version.now test.now }
-{
-    match test {
-        VersionTest::Values(compare) => compares(compare, version.values.as_slice()),
-        VersionTest::Periods(left, predicate, right) => relates(
-            *predicate,
-            side_period(*left, version),
-            side_period(*right, version),
-        ),
-        VersionTest::ContainsDay(side, day) => side_period(*side, version).contains_day(*day),
-    }
-}
+impl<'a> Subject<VersionTest> for &'a VersionRow {
+    ghost use Rattle.catalog_core.specs.stored.StoredAnswers.{passes_test};
 
-/// Whether a condition holds of a version.
-fn satisfies(condition: &Tree<VersionTest>, version: &VersionRow) -> bool
-    ensures { result ≡ is_satisfied (passes_test version.now) (plain_condition condition.now) }
-{
-    match condition {
-        Tree::Or(first, others) => {
-            if satisfies(first, version) {
-                return true;
-            }
-            for part in others {
-                if satisfies(part, version) {
-                    return true;
-                }
-            }
-            false
+    ghost passed = { λ version. passes_test version.now };
+
+    fn passes(self, test: &VersionTest) -> bool {
+        match test {
+            VersionTest::Values(compare) => self.values.as_slice().passes(compare),
+            VersionTest::Periods(left, predicate, right) => relates(
+                *predicate,
+                side_period(*left, self),
+                side_period(*right, self),
+            ),
+            VersionTest::ContainsDay(side, day) => side_period(*side, self).contains_day(*day),
         }
-        Tree::And(first, others) => {
-            if !satisfies(first, version) {
-                return false;
-            }
-            for part in others {
-                if !satisfies(part, version) {
-                    return false;
-                }
-            }
-            true
-        }
-        Tree::Not(part) => !satisfies(part, version),
-        Tree::Test(test) => passes(test, version),
     }
 }
 

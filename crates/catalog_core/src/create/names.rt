@@ -100,12 +100,8 @@ pub fn exceeds_limits(catalog: &Catalog, create: &CreateTable) -> bool
 pub fn is_there(catalog: &Catalog, name: &Name) -> bool
     ensures { result ≡ is_there catalog.now.tables name.now }
 {
-    for table in catalog.tables.as_slice() {
-        if name.is(&table.name) {
-            return true;
-        }
-    }
-    false
+    let tables = catalog.tables.as_slice();
+    tables.iter().any(|table| name.is(&table.name))
 }
 
 /// Whether a reference names a table that is missing.
@@ -113,12 +109,8 @@ pub fn is_there(catalog: &Catalog, name: &Name) -> bool
 pub fn lacks_parent(catalog: &Catalog, create: &CreateTable) -> bool
     ensures { result ≡ lacks_parent catalog.now.tables create.now }
 {
-    for x in create.references.as_slice() {
-        if parent_of(catalog, x).is_none() {
-            return true;
-        }
-    }
-    false
+    let references = create.references.as_slice();
+    references.iter().any(|x| parent_of(catalog, x).is_none())
 }
 
 /// Whether a reference names another period than its parent's.
@@ -235,12 +227,7 @@ fn is_no_value_column(create: &CreateTable, column: &ColumnElement) -> bool
 fn is_among(names: &[Name], name: &Name) -> bool
     ensures { result ≡ list_any (bytes_eq name.now) names.now }
 {
-    for x in names {
-        if name.is(x) {
-            return true;
-        }
-    }
-    false
+    names.iter().any(|x| name.is(x))
 }
 
 /// Whether a name is among the columns of a key or the own columns of a reference.
@@ -266,10 +253,6 @@ fn is_keyed(create: &CreateTable, name: &Name) -> bool
 pub fn keys_period_column(create: &CreateTable) -> bool
     ensures { result ≡ keys_period_column create.now }
 {
-    for column in create.columns.as_slice() {
-        if is_keyed(create, &column.name) && is_no_value_column(create, column) {
-            return true;
-        }
-    }
-    false
+    let columns = create.columns.as_slice();
+    columns.iter().any(|x| is_keyed(create, &x.name) && is_no_value_column(create, x))
 }

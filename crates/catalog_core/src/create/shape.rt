@@ -110,12 +110,10 @@ fn is_bad_type(kind: TypeName, generated: bool) -> bool
 pub fn has_bad_column(create: &CreateTable) -> bool
     ensures { result ≡ has_bad_column create.now }
 {
-    for x in create.columns.as_slice() {
-        if is_bad_type(x.kind, x.generated.is_some()) {
-            return true;
-        }
-    }
-    false
+    let columns = create.columns.as_slice();
+    columns
+        .iter()
+        .any(|x| is_bad_type(x.kind, x.generated.is_some()))
 }
 
 /// Whether a key or reference is over another period.
@@ -159,12 +157,10 @@ fn has_other_period(catalog: &Catalog, create: &CreateTable) -> bool
 fn has_unequal_lists(create: &CreateTable) -> bool
     ensures { result ≡ has_unequal_lists create.now }
 {
-    for x in create.references.as_slice() {
-        if x.columns.len() != x.parent_columns.len() {
-            return true;
-        }
-    }
-    false
+    let references = create.references.as_slice();
+    references
+        .iter()
+        .any(|x| x.columns.len() != x.parent_columns.len())
 }
 
 /// Whether some reference is to columns that are not its parent's key.

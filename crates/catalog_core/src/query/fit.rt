@@ -27,12 +27,9 @@ fn has_kinds(kinds: &[ValueKind], values: &[Value]) -> bool
 fn sees_its_kinds(tables: &Tables, reference: &QueryReference) -> bool
     ensures { result ≡ sees_its_kinds tables.now reference.now }
 {
-    for row in tables.rows_for(reference) {
-        if !has_kinds(reference.kinds.as_slice(), row.values.as_slice()) {
-            return false;
-        }
-    }
-    true
+    let (rows, kinds) = (tables.rows_for(reference), reference.kinds.as_slice());
+    rows.iter()
+        .all(|row| has_kinds(kinds, row.values.as_slice()))
 }
 
 /// Whether all references of the query see rows of their tables' kinds.

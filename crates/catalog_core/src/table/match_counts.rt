@@ -78,10 +78,7 @@ pub fn either_matches(create: &CreateTable, wanted: MatchCount, start: &Name, en
 pub fn repeats(names: &[Name]) -> bool
     ensures { result ≡ repeats names.now }
 {
-    for x in names {
-        if MatchCount::Many.is(match_count(names, x)) {
-            return true;
-        }
-    }
-    false
+    names
+        .iter()
+        .any(|x| MatchCount::Many.is(match_count(names, x)))
 }

@@ -94,12 +94,7 @@ pub fn matches_among<T: Named>(elements: &[T], name: &Name) -> usize
 pub fn some_match_among<T: Named>(elements: &[T], wanted: MatchCount, names: &[Name]) -> bool
     ensures { result ≡ some_match_among T.named elements.now wanted names.now }
 {
-    for x in names {
-        if wanted.is(matches_among(elements, x)) {
-            return true;
-        }
-    }
-    false
+    names.iter().any(|x| wanted.is(matches_among(elements, x)))
 }
 
 /// The first element that a name matches.

@@ -76,12 +76,10 @@ pub fn repeats_column(insert: &InsertRows) -> bool
 pub fn is_system_name(table: &TableDef, name: &Name) -> bool
     ensures { result ≡ is_system_name table.now name.now }
 {
-    for x in table.columns.as_slice() {
-        if name.is(&x.name) && is_system(x.kind) {
-            return true;
-        }
-    }
-    false
+    let columns = table.columns.as_slice();
+    columns
+        .iter()
+        .any(|x| name.is(&x.name) && is_system(x.kind))
 }
 
 /// Whether one of the names names a system column.
@@ -89,12 +87,7 @@ pub fn is_system_name(table: &TableDef, name: &Name) -> bool
 pub fn some_system_name(table: &TableDef, names: &[Name]) -> bool
     ensures { result ≡ some_system_name table.now names.now }
 {
-    for x in names {
-        if is_system_name(table, x) {
-            return true;
-        }
-    }
-    false
+    names.iter().any(|x| is_system_name(table, x))
 }
 
 /// Whether the list has a system column.
@@ -113,12 +106,10 @@ pub fn lists_system(table: &TableDef, insert: &InsertRows) -> bool
 pub fn omits_column(table: &TableDef, names: &[Name]) -> bool
     ensures { result ≡ omits_column table.now names.now }
 {
-    for x in table.columns.as_slice() {
-        if !is_system(x.kind) && match_count(names, &x.name) == 0 {
-            return true;
-        }
-    }
-    false
+    let columns = table.columns.as_slice();
+    columns
+        .iter()
+        .any(|x| !is_system(x.kind) && match_count(names, &x.name) == 0)
 }
 
 /// Whether a row has another number of values.
@@ -126,12 +117,7 @@ pub fn omits_column(table: &TableDef, names: &[Name]) -> bool
 pub fn has_row_of_other_length(count: usize, rows: &[NonEmpty<Value>]) -> bool
     ensures { result ≡ has_row_of_other_length count rows.now }
 {
-    for x in rows {
-        if x.as_slice().len() != count {
-            return true;
-        }
-    }
-    false
+    rows.iter().any(|x| x.as_slice().len() != count)
 }
 
 /// Whether the list lacks a column, or a row has another number of values than there are names.

@@ -87,12 +87,7 @@ fn has_faulty_value_at(
 ) -> bool
     ensures { result ≡ has_faulty_value_at fault columns.now places.now rows.now }
 {
-    for x in rows {
-        if gives_faulty_value_at(fault, columns, places, x.as_slice()) {
-            return true;
-        }
-    }
-    false
+    rows.iter().any(|x| gives_faulty_value_at(fault, columns, places, x.as_slice()))
 }
 
 /// Whether a row of INSERT gives a value that is wrong in this way for its column.

@@ -26,12 +26,10 @@ fn is_of_other_kind(table: &TableDef, name: &Name, value: &Value) -> bool
 fn is_too_long(table: &TableDef, name: &Name, value: &Value) -> bool
     ensures { result ≡ insertion.is_too_long table.now (name.now, value.now) }
 {
-    for x in table.columns.as_slice() {
-        if name.is(&x.name) && is_longer(x.kind, value) {
-            return true;
-        }
-    }
-    false
+    let columns = table.columns.as_slice();
+    columns
+        .iter()
+        .any(|x| name.is(&x.name) && is_longer(x.kind, value))
 }
 
 /// The faults of an assignment.
@@ -84,12 +82,7 @@ fn is_set_again(assignments: &[Assignment], set: &Assignment) -> bool
 fn sets_twice(assignments: &[Assignment]) -> bool
     ensures { result ≡ sets_twice assignments.now }
 {
-    for set in assignments {
-        if is_set_again(assignments, set) {
-            return true;
-        }
-    }
-    false
+    assignments.iter().any(|set| is_set_again(assignments, set))
 }
 
 /// The fault of a column that is set more than once.

@@ -22,13 +22,7 @@ fn value_count(columns: &[SeenColumn<'_>]) -> usize
     ensures value { result ≡ length (values_among columns.now) }
     ensures within { result ≤ length columns.now }
 {
-    let mut count = 0;
-    for seen in columns {
-        if seen.has_value() {
-            count += 1;
-        }
-    }
-    count
+    columns.iter().filter(|seen| seen.has_value()).count()
 }
 
 /// The place of the first that a reference names among the columns that rows have a value for.
