@@ -50,8 +50,18 @@ def with_tables(count: int) -> str:
                    for place in range(4, count + 1))
 
 
+# In place of bt_version: a table without its key, and one with a key in which versions that begin
+# as one are two.
+COLUMNS = ('tab INTEGER NOT NULL, vals BLOB NOT NULL, s INTEGER NOT NULL, e INTEGER NOT NULL,'
+           ' ss INTEGER NOT NULL, se INTEGER NOT NULL')
+WITHOUT_KEY = f'DROP TABLE bt_version; CREATE TABLE bt_version ({COLUMNS}) STRICT;'
+KEY_WITH_ENDS = (f'DROP TABLE bt_version; CREATE TABLE bt_version ({COLUMNS},'
+                 ' PRIMARY KEY (tab, vals, s, e)) STRICT;')
+
 # A good store: the tables, the clock at 2024-01-01, and 1 of EMP in January. This is done to it:
 ENDED = {'since': '{clock} - 9', 'until': '{clock}'}
+# Two ended versions of one table, with the same values, first day and beginning.
+TWINS = [row(EMP, [2, 3], '2024-01-01', end, **ENDED) for end in ('2024-01-02', '2024-01-03')]
 GOOD = [
     ('nothing', ''),
     ('tables alone', 'DELETE FROM bt_version'),
@@ -71,6 +81,16 @@ GOOD = [
      + row(EMP, [1, 4], '2024-02-01', '2024-03-01')),
     ('an ended row without a parent', row(WRK, [7, 2], FIRST, LAST, **ENDED)),
     ('an ended row with a parent on some days', row(WRK, [7, 1], FIRST, LAST, **ENDED)),
+    ('no version, and no key of these', WITHOUT_KEY),
+    ('versions of a table without its key', WITHOUT_KEY + TWINS[0]
+     + row(EMP, [1, 3], '2024-01-01', '2024-02-01')
+     + row(EMP, [2, 3], '2024-01-01', '2024-01-03', since='{clock} - 8', until='{clock}')
+     + row(EMP, [2, 3], '2024-01-02', '2024-01-03', **ENDED)
+     + row(EMP, [2, 4], '2024-01-01', '2024-01-03', **ENDED)
+     + row(EMP, [1, 3], '2024-01-01', '2024-02-01', **ENDED)
+     + row(NOTE, ['a', LAST], '2024-01-01', '2024-01-03')),
+    ('versions of a table with another key', KEY_WITH_ENDS + TWINS[0]
+     + row(EMP, [1, 3], '2024-01-01', '2024-02-01')),
 ]
 BAD = [
     ('no bt_version', 'DROP TABLE bt_version'),
@@ -124,11 +144,18 @@ BAD = [
     ('the open end of the other form', f'UPDATE bt_version SET se = {SECONDS.forever} +'
      f' {MICROSECONDS.forever} - {{forever}}'),
     ('the last second, which is no open end', 'UPDATE bt_version SET se = 253402300799000000'),
-    ('a version that begins twice', 'ALTER TABLE bt_version RENAME TO old;'
-     'CREATE TABLE bt_version (tab INTEGER NOT NULL, vals BLOB NOT NULL, s INTEGER NOT NULL,'
-     ' e INTEGER NOT NULL, ss INTEGER NOT NULL, se INTEGER NOT NULL) STRICT;'
-     + row(EMP, [2, 3], '2024-01-01', '2024-01-02', **ENDED)
-     + row(EMP, [2, 3], '2024-01-01', '2024-01-03', **ENDED)),
+    ('a version that begins twice', WITHOUT_KEY + TWINS[0] + TWINS[1]),
+    ('a version that begins twice, with another in between',
+     WITHOUT_KEY + TWINS[0] + row(EMP, [1, 3], '2024-01-01', '2024-02-01') + TWINS[1]),
+    ('a version that begins twice, between others', WITHOUT_KEY
+     + row(WRK, [7, 1], FIRST, LAST, **ENDED) + TWINS[1]
+     + row(EMP, [2, 2], '2024-01-01', '2024-01-02', **ENDED) + TWINS[0]
+     + row(EMP, [2, 4], '2024-01-01', '2024-01-02', **ENDED)),
+    ('a current version that an ended one begins as', WITHOUT_KEY + TWINS[0]
+     + row(EMP, [1, 3], '2024-01-01', '2024-02-01')
+     + row(EMP, [2, 3], '2024-01-01', '2024-01-03', since=ENDED['since'])),
+    ('a version that begins twice, by another key', KEY_WITH_ENDS + TWINS[0]
+     + row(EMP, [1, 3], '2024-01-01', '2024-02-01') + TWINS[1]),
     ('a second row of a key on one day', row(EMP, [1, 4], '2024-01-31', '2024-03-01')),
     ('a second row of the same values', row(EMP, [1, 3], '2023-12-01', '2024-01-02')),
     ('a row of a key within another', row(EMP, [1, 4], '2024-01-15', '2024-01-16')),

@@ -17,12 +17,11 @@ use Rattle.sqlite_value.specs.Order.{column}
 use Rattle.version_tables.specs.Forms.{form_number}
 use Rattle.version_tables.specs.declared.form.Form.{Form}
 use Rattle.version_tables.specs.declared.form.Form.TheVariants.{Seconds, Microseconds}
-use Rattle.version_tables.specs.Good.{AreMetaRows}
 use Rattle.version_tables.specs.Rows.{AreBytesAt, IsNumberAt}
 use Rattle.version_tables.specs.Good as raw
 use Rattle.version_tables.specs.Represents.{Version, meta_row, stored}
 use Rattle.version_store.specs.Contents.{TableVersion}
-use Rattle.version_store.specs.GoodStore.{AreTableRows, IsTableRow, AreStoreRows, IsVersionRow}
+use Rattle.version_store.specs.GoodStore.{AreDefinitions, AreTableRows, IsTableRow, IsVersionRow}
 use Rattle.catalog_core.specs.create.Lawful.{IsLawful}
 use Rattle.version_store.specs.RowValues.{are_row_values}
 use Rattle.version_store.specs.Written.{IsReadable, written_table, written_version}
@@ -189,8 +188,10 @@ same_number_form Microseconds Microseconds e = refl
 pub same_form : (a b : Form) (x y : ℤ) → meta_row (form_number a) x ∷ [] ≡ meta_row (form_number b) y ∷ [] → (a ≡ b) × (x ≡ y)
 same_form a b x y e = let parts = same_meta (form_number a) (form_number b) x y e in (same_number_form a b parts.0, parts.1)
 
-pub other_versions : (metas tables versions : List Row) (ts us : List TableDef) (f h : Form) (a b : ℤ) → AreTableRows [] tables ts → AreMetaRows metas f a → ¬ AllByRecursion (IsVersionRow f ts a) versions → ¬ AreStoreRows metas tables versions us h b
-other_versions metas tables versions ts us f h a b read clock none says =
-    let same = same_tables [] tables us ts says.defined.each read in
-    let at = same_form h f b a (sym says.meta.0 ∙ clock.0) in
-    none (subst₂ (λ (form : Form) (n : ℤ). AllByRecursion (IsVersionRow form ts n) versions) at.0 at.1 (subst (λ (known : List TableDef). AllByRecursion (IsVersionRow h known b) versions) same says.each))
+-- rows that are not all good versions are so by whatever definitions, form and clock
+pub other_versions : (metas tables versions : List Row) (ts us : List TableDef) (f h : Form) (a b : ℤ) → AreDefinitions metas tables ts f a → ¬ AllByRecursion (IsVersionRow f ts a) versions → AreDefinitions metas tables us h b
+    → ¬ AllByRecursion (IsVersionRow h us b) versions
+other_versions metas tables versions ts us f h a b ours none theirs each =
+    let same = same_tables [] tables us ts theirs.defined.each ours.defined.each in
+    let at = same_form h f b a (sym theirs.meta.0 ∙ ours.meta.0) in
+    none (subst₂ (λ (form : Form) (n : ℤ). AllByRecursion (IsVersionRow form ts n) versions) at.0 at.1 (subst (λ (known : List TableDef). AllByRecursion (IsVersionRow h known b) versions) same each))

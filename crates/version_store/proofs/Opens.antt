@@ -1,15 +1,11 @@
 -- The points of a store, by the rows that its queries show.
-use Rattle.std.proofs.Common.{◌≡◌, ◌+◌, ◌≤◌, ◌∙◌, ◌∷◌, ◌++◌, ℕ, ℤ, pos, List, [], Some, Result, Ok, Err, ap, arith, false, length, length-append, map, refl, subst, subst₂, sym, true}
-use Rattle.std.specs.Prelude.{IfErr, IfOk}
+use Rattle.std.proofs.Common.{◌≡◌, ◌+◌, ◌≤◌, ◌∙◌, ◌∷◌, ◌++◌, ℕ, ℤ, pos, List, [], Some, ap, arith, false, length, length-append, map, refl, subst, subst₂, sym, true}
 use Rattle.std.specs.List.{All, AllByRecursion}
 use Rattle.std.specs.List.Sorted.{IsPermutation}
 use Rattle.std.proofs.lemmas.List.{length-map}
 use Rattle.std.proofs.lemmas.List.Sorted.{IsPermutation-map, IsPermutation-sym, IsPermutation-trans}
 use Rattle.sqlite_trees.proofs.ListLemmas.{IsPermutation-same, all-map, all-permutation, all_from_map, all_weaker}
 use Rattle.period_core.specs.Encoding.{IsColumnValue}
-use Rattle.version_store.specs.declared.fault.OpenFault.{OpenFault}
-use Rattle.version_store.specs.declared.fault.OpenFault.TheVariants.{BadStore}
-use Rattle.catalog_core.specs.declared.table.catalog.Catalog.{Catalog}
 use Rattle.catalog_core.specs.declared.table.TableDef.{TableDef}
 use Rattle.catalog_core.specs.table.TableWords.{table_of}
 use Rattle.sqlite.proofs.Callers.{one_permutation}
@@ -32,7 +28,7 @@ use Rattle.version_store.specs.Units.{in_microseconds, version_of}
 use Rattle.version_store.proofs.Judged.{same_form, same_written}
 use Rattle.version_store.proofs.Units.{same_units}
 use Rattle.version_store.specs.Contents.{AreDated, Contents, HaveColumnValues, IsDated, TableVersion, same_version}
-use Rattle.version_store.specs.GoodStore.{AreLawful, AreTableRows, HaveTables, IsGoodStore, IsGoodVersionIn, NoExtraCondition, AreStoreRows, IsVersionRow, AreGood}
+use Rattle.version_store.specs.GoodStore.{AreDefinitions, AreLawful, AreTableRows, HaveTables, IsGoodStore, IsGoodVersionIn, NoExtraCondition, IsVersionRow, AreGood}
 use Rattle.version_store.specs.Written.{Has, HasIn, IsReadable, written_table, written_version}
 
 -- ---- definitions
@@ -90,10 +86,10 @@ abbrev pub KeepsKeys : Database → Type 0
 KeepsKeys db = (vs : List TableVersion) → HaveColumnValues vs → IsPermutation (map stored_version vs) (map version_shown (db.trees 2)) → IsAscending (λ (a b : TableVersion). same_version a b ≡ false) vs
 
 module _ (db : Database) (metas tables versions : List Row) (pm : IsPermutation (map meta_shown (db.trees 0)) metas) (pt : InOrder table_shown by_rowid (db.trees 1) tables) (pv : IsPermutation (map version_shown (db.trees 2)) versions) where
-  pub points_hold : HasStoreTables db.schema → KeepsKeys db → (known : List TableDef) (form : Form) (clock : ℤ) → AreStoreRows metas tables versions known form clock
+  pub points_hold : HasStoreTables db.schema → KeepsKeys db → (known : List TableDef) (form : Form) (clock : ℤ) → AreDefinitions metas tables known form clock → AllByRecursion (IsVersionRow form known clock) versions
       → (good : IsGoodStore NoExtraCondition db) × (good.contents.tables ≡ known) × (good.form ≡ form) × (good.contents.clock ≡ clock)
-  points_hold there keys known form clock says =
-      let all = all-permutation (IsVersionRow form known clock) _ _ (IsPermutation-sym _ _ pv) says.each in
+  points_hold there keys known form clock says each =
+      let all = all-permutation (IsVersionRow form known clock) _ _ (IsPermutation-sym _ _ pv) each in
       let vs = says_all form known clock (map version_shown (db.trees 2)) all in
       let held : HaveColumnValues vs.0 = all_weaker (IsGoodVersionIn form known clock) (λ (v : TableVersion). All IsColumnValue v.values) (λ v good. good.held) vs.0 vs.2 in
       let is = spelled_all [] tables known says.defined.each in
@@ -120,7 +116,7 @@ module _ (db : Database) (metas tables versions : List Row) (pm : IsPermutation 
         refl,
       )
 
-  pub points_fail : IsGoodStore NoExtraCondition db → ((known : List TableDef) (form : Form) (clock : ℤ) → ¬ AreStoreRows metas tables versions known form clock) → ⊥
+  pub points_fail : IsGoodStore NoExtraCondition db → ((known : List TableDef) (form : Form) (clock : ℤ) → AreDefinitions metas tables known form clock → ¬ AllByRecursion (IsVersionRow form known clock) versions) → ⊥
   points_fail good none =
       let c = good.contents in
       let is : tables ≡ defined 1 (map written_table c.tables) = definitions_in_order (db.trees 1) tables (map written_table c.tables) pt good.says.tables in
@@ -129,21 +125,12 @@ module _ (db : Database) (metas tables versions : List Row) (pm : IsPermutation 
       let says = IsVersionRow good.form c.tables c.clock in
       let each : AllByRecursion says (map stored_version c.versions) = all-map says stored_version c.versions (all_weaker (IsGoodVersionIn good.form c.tables c.clock) (λ v. says (stored_version v)) (λ v good. (v, refl, good)) c.versions good.versions) in
       let shown = all-permutation says _ _ (subst (λ l. IsPermutation l (map version_shown (db.trees 2))) (twice c.versions) good.says.versions) each in
-      none c.tables good.form c.clock (record {
+      none c.tables good.form c.clock
+      (record {
         meta = meta;
         defined = record { few = subst (λ n. n ≤ 64) (sym long) good.few; each = subst (λ rows. AreTableRows [] rows c.tables) (sym is) (rows_of_tables [] c.tables good.readable good.lawful) };
-        each = all-permutation says _ _ pv shown;
       })
-
-  pub judged_good : HasStoreTables db.schema → KeepsKeys db → {L : Type 0} (r : Result (Catalog × Form × ℤ × L) OpenFault) → IfOk r (λ found. AreStoreRows metas tables versions found.0.tables found.1 found.2)
-      → IfOk r (λ found. (good : IsGoodStore NoExtraCondition db) × (good.contents.tables ≡ found.0.tables) × (good.form ≡ found.1) × (good.contents.clock ≡ found.2))
-  judged_good there keys (Err e) says = tt
-  judged_good there keys (Ok found) says = points_hold there keys found.0.tables found.1 found.2 says
-
-  pub judged_bad : {L : Type 0} (r : Result (Catalog × Form × ℤ × L) OpenFault) → IfErr r (λ refusal. refusal ≡ BadStore → (known : List TableDef) (form : Form) (clock : ℤ) → ¬ AreStoreRows metas tables versions known form clock)
-      → IfErr r (λ refusal. refusal ≡ BadStore → ¬ IsGoodStore NoExtraCondition db)
-  judged_bad (Ok found) none = tt
-  judged_bad (Err e) none = λ bad good. points_fail good (none bad)
+      (all-permutation says _ _ pv shown)
 
 -- a good store has its contents
 pub has_contents : (db : Database) (good : IsGoodStore NoExtraCondition db) → HaveDistinctRowids (db.trees 2) → AllByRecursion (λ r. is_int (rowid r) ≡ true) (db.trees 2) → HasIn good.form db good.contents
@@ -152,12 +139,6 @@ has_contents db good untied keyed = record {
   definitions = good.readable;
   values = all_weaker (IsGoodVersionIn good.form good.contents.tables good.contents.clock) (λ (v : TableVersion). All IsColumnValue v.values) (λ v fine. fine.held) good.contents.versions good.versions;
 }
-
-pub found_contents : (db : Database) → HaveDistinctRowids (db.trees 2) → AllByRecursion (λ r. is_int (rowid r) ≡ true) (db.trees 2) → {L : Type 0} (r : Result (Catalog × Form × ℤ × L) OpenFault)
-    → IfOk r (λ found. (good : IsGoodStore NoExtraCondition db) × (good.contents.tables ≡ found.0.tables) × (good.form ≡ found.1) × (good.contents.clock ≡ found.2))
-    → IfOk r (λ found. (good : IsGoodStore NoExtraCondition db) × HasIn good.form db good.contents × (good.contents.tables ≡ found.0.tables) × (good.form ≡ found.1) × (good.contents.clock ≡ found.2))
-found_contents db untied keyed (Err e) says = tt
-found_contents db untied keyed (Ok found) says = (says.0, has_contents db says.0 untied keyed, says.1, says.2, says.3)
 
 -- ---- a database has one catalog, one form and one clock
 

@@ -102,22 +102,20 @@ read_as form tables clock row n b read (v, is, good) number bytes same held time
 
 -- ---- rows
 
--- the rows before the rest are read as lists, one for each table
-pub record AreReadBefore (form : Form) (tables : List TableDef) (clock : ℤ) (rows rest : List Row) (lists : List (List VersionRow)) : Type 0 where
-  pub versions : List TableVersion
-  pub spelled : rows ≡ map stored_version versions ++ rest
-  pub good : AllByRecursion (IsGoodVersionIn form tables clock) versions
-  pub listed : (number : ℕ) → map (version_in number) (rows_of_table lists number) ≡ map (version_of form) (of_table number versions)
-  pub count : length lists ≡ length tables
+-- the rows so far are read as lists, one for each table
+abbrev pub AreReadSoFar : Form → List TableDef → ℤ → List Row → List (List VersionRow) → Type 0
+AreReadSoFar form tables clock rows lists = AreReadAs form tables clock rows lists × (length lists ≡ length tables)
 
-pub none_read : (form : Form) (tables : List TableDef) (clock : ℤ) (rows : List Row) (lists : List (List VersionRow)) → length lists ≡ length tables → ((number : ℕ) → rows_of_table lists number ≡ []) → AreReadBefore form tables clock rows rows lists
-none_read form tables clock rows lists long none = record {
-  versions = [];
-  spelled = refl;
-  good = tt;
-  listed = λ number. ap (map (version_in number)) (none number);
-  count = long;
-}
+pub none_read : (form : Form) (tables : List TableDef) (clock : ℤ) (lists : List (List VersionRow)) → length lists ≡ length tables → ((number : ℕ) → rows_of_table lists number ≡ []) → AreReadSoFar form tables clock [] lists
+none_read form tables clock lists long none = (
+  record {
+    versions = [];
+    spelled = refl;
+    good = tt;
+    listed = λ number. ap (map (version_in number)) (none number);
+  },
+  long,
+)
 
 -- the number of a row that is read is a table's
 pub number_of_table : (form : Form) (tables : List TableDef) (clock : ℤ) (row : Row) (n : ℕ) (read : VersionRow) → IsReadAs form tables clock row n read → (0 < n) × (n ≤ length tables)
@@ -135,20 +133,19 @@ all_behind P [] x ys all = all.0
 all_behind P (y ∷ xs) x ys all = all_behind P xs x ys all.1
 
 -- one row more is read
-pub one_read : (form : Form) (tables : List TableDef) (clock : ℤ) (rows rest left : List Row) (old new : List (List VersionRow)) (row : Row) (n : ℕ) (read : VersionRow) → AreReadBefore form tables clock rows rest old → rest ≡ row ∷ left
-    → IsReadAs form tables clock row n read → HasMore n read old new → AreReadBefore form tables clock rows left new
-one_read form tables clock rows rest left old new row n read was next (v, is, good, same) more =
+pub one_read : (form : Form) (tables : List TableDef) (clock : ℤ) (rows : List Row) (old new : List (List VersionRow)) (row : Row) (n : ℕ) (read : VersionRow) → AreReadSoFar form tables clock rows old
+    → IsReadAs form tables clock row n read → HasMore n read old new → AreReadSoFar form tables clock (rows ++ row ∷ []) new
+one_read form tables clock rows old new row n read (was, count) (v, is, good, same) more =
     let vs = was.versions in
-    let table : n ≡ v.table = ap (λ (w : TableVersion). w.table) same in
-    let front : map stored_version vs ++ row ∷ left ≡ map stored_version (vs ++ v ∷ []) ++ left =
-    sym (append_assoc (map stored_version vs) (row ∷ []) left) ∙ ap (λ (l : List Row). l ++ left) (ap (λ (r : Row). map stored_version vs ++ r ∷ []) is ∙ sym (map-append stored_version vs (v ∷ []))) in
-    record {
-      versions = vs ++ v ∷ [];
-      spelled = was.spelled ∙ ap (λ (l : List Row). map stored_version vs ++ l) next ∙ front;
-      good = all_snoc (IsGoodVersionIn form tables clock) vs v was.good good;
-      listed = listed table;
-      count = more.count ∙ was.count;
-    }
+    let table : n ≡ v.table = ap (λ (w : TableVersion). w.table) same in (
+      record {
+        versions = vs ++ v ∷ [];
+        spelled = ap (λ (l : List Row). l ++ row ∷ []) was.spelled ∙ ap (λ (r : Row). map stored_version vs ++ r ∷ []) is ∙ sym (map-append stored_version vs (v ∷ []));
+        good = all_snoc (IsGoodVersionIn form tables clock) vs v was.good good;
+        listed = listed table;
+      },
+      more.count ∙ count,
+    )
   where
     listed : n ≡ v.table → (number : ℕ) → map (version_in number) (rows_of_table new number) ≡ map (version_of form) (of_table number (was.versions ++ v ∷ []))
     listed table number =
@@ -169,17 +166,9 @@ one_read form tables clock rows rest left old new row n read was next (v, is, go
             let apart : number ≡ n → ⊥ = (λ at. grind (arith, nat_tests, off, at, table)) in
             ap (map (version_in number)) (more.others number apart) ∙ was.listed number ∙ ap (map (version_of form)) (sym (append-nil (of_table number was.versions)))
 
-pub all_read : (form : Form) (tables : List TableDef) (clock : ℤ) (rows rest : List Row) (lists : List (List VersionRow)) → rest ≡ [] → AreReadBefore form tables clock rows rest lists → AreReadAs form tables clock rows lists
-all_read form tables clock rows rest lists end was = record {
-  versions = was.versions;
-  spelled = was.spelled ∙ ap (λ (l : List Row). map stored_version was.versions ++ l) end ∙ append-nil (map stored_version was.versions);
-  good = was.good;
-  listed = was.listed;
-}
-
--- a row that is not one of the read rows
-pub not_all : (P : Row → Type 0) (rows front rest left : List Row) (row : Row) → rows ≡ front ++ rest → rest ≡ row ∷ left → ¬ P row → ¬ AllByRecursion P rows
-not_all P rows front rest left row is next none all = none (all_behind P front row left (subst (AllByRecursion P) (is ∙ ap (λ (l : List Row). front ++ l) next) all))
+-- a property that one of the rows lacks is not one of all rows
+pub not_all : (P : Row → Type 0) (front more : List Row) (row : Row) → ¬ P row → ¬ AllByRecursion P ((front ++ row ∷ []) ++ more)
+not_all P front more row none all = none (all_behind P front row more (subst (AllByRecursion P) (append_assoc front (row ∷ []) more) all))
 
 pub say_all : (form : Form) (tables : List TableDef) (clock : ℤ) (rows : List Row) (lists : List (List VersionRow)) → AreReadAs form tables clock rows lists → AllByRecursion (IsVersionRow form tables clock) rows
 say_all form tables clock rows lists read =

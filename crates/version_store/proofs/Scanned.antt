@@ -30,7 +30,7 @@ use Rattle.period_core.specs.declared.window.Window.TheVariants.{Now, AsOf, From
 use Rattle.version_tables.specs.Giving.{AreSelected, GivesNext, HasGivenAll, HasGivenRows}
 use Rattle.version_tables.specs.Represents.{Version, shown}
 use Rattle.version_tables.specs.Represents as raw
-use Rattle.version_tables.specs.Selections.{selected, selects}
+use Rattle.version_tables.specs.Selections.{OfTable, selected, selects}
 use Rattle.version_tables.specs.declared.selection.Selection.{Selection}
 use Rattle.version_tables.specs.declared.selection.Selection.TheVariants.{Whole}
 use Rattle.version_store.specs.Contents.{AreDated, AreRowsOf, Contents, HaveColumnValues, IsDated, TableVersion, of_table, version_cmp, version_in}
@@ -273,19 +273,19 @@ none_visits next c table window old empty dated =
 
 -- the query of the table has given rows, and the visitor took what they show
 abbrev pub HasVisited : {S M : Type 0} → Ghosts S → Form → (M → VersionRow → M) → ℕ → Selection → Held S → Held S → M → M → Type 0
-HasVisited g form next table selection first now old new = (given : List Row) × HasGivenRows g table selection first now given × TookShown form next table old new given
+HasVisited g form next table selection first now old new = (given : List Row) × HasGivenRows g (OfTable table selection) first now given × TookShown form next table old new given
 
 module _ {S M : Type 0} (g : Ghosts S) (form : Form) (next : M → VersionRow → M) (table : ℕ) (selection : Selection) (first : Held S) where
   -- no row is given to the visitor yet
-  pub none_visited : (now : Held S) (n : ℕ) (old : M) → n ≡ table → HasGivenRows g n selection first now [] → HasVisited g form next table selection first now old old
-  none_visited now n old same begun = ([], subst (λ t. HasGivenRows g t selection first now []) same begun, none)
+  pub none_visited : (now : Held S) (n : ℕ) (old : M) → n ≡ table → HasGivenRows g (OfTable n selection) first now [] → HasVisited g form next table selection first now old old
+  none_visited now n old same begun = ([], subst (λ t. HasGivenRows g (OfTable t selection) first now []) same begun, none)
     where
       none : TookShown form next table old old []
       none [] of held shows = ([], refl, refl)
       none (v ∷ done) of held shows = absurd cc
 
   -- one row more was given and taken
-  pub one_visited : (before now : Held S) (old mid new : M) (was : HasVisited g form next table selection first before old mid) (row : Row) (after : Option Row) → GivesNext g table selection first now was.0 after → after ≡ Some row
+  pub one_visited : (before now : Held S) (old mid new : M) (was : HasVisited g form next table selection first before old mid) (row : Row) (after : Option Row) → GivesNext g (OfTable table selection) first now was.0 after → after ≡ Some row
       → TookOne form next mid new row → HasVisited g form next table selection first now old new
   one_visited before now old mid new was row after gives is taken = (was.0 ++ row ∷ [], rw is at gives, one_more form next table old mid new was.0 row was.2 taken)
 
@@ -297,18 +297,18 @@ module _ {S M : Type 0} (g : Ghosts S) (form : Form) (next : M → VersionRow �
       visits {X = Unit {0}} form next c table selection chooses old new (Err refusal) shows.1.0 was.0 shows.0 sure has.values shows.1.1 shows.1.2 (subst (λ m. TookShown form next table old m was.0) (sym same) was.2) tt
 
   -- the visitor has visited all rows at the end of the query
-  pub all_visits : (before now : Held S) (old new : M) (was : HasVisited g form next table selection first before old new) (after : Option Row) → GivesNext g table selection first now was.0 after → after ≡ None
+  pub all_visits : (before now : Held S) (old new : M) (was : HasVisited g form next table selection first before old new) (after : Option Row) → GivesNext g (OfTable table selection) first now was.0 after → after ≡ None
       → HasCleanDisk (state g now) → (c : Contents) → HasIn form (state g first).now c → (chooses : ℤ → ℤ → Bool) → Selects form selection chooses
       → VisitsChosen next (in_microseconds form c) table chooses old new (let r : Result (Unit {0}) Refusal = Ok (tt {0}) in r)
   all_visits before now old new was after gives is clean c has chooses sure =
-      let all : HasGivenAll g table selection first now was.0 = rw is at gives in
+      let all : HasGivenAll g (OfTable table selection) first now was.0 = rw is at gives in
       let shows = all.rows clean (written_in form c) has.rows in
       visits {X = Unit {0}} form next c table selection chooses old new (Ok (tt {0})) shows.0 was.0 [] sure has.values (append-nil was.0 ∙ shows.1) shows.2 was.2 refl
 
   -- a row that was given last
-  pub last_readable : (before now : Held S) (old mid : M) (was : HasVisited g form next table selection first before old mid) (row : Row) (after : Option Row) → GivesNext g table selection first now was.0 after → after ≡ Some row
+  pub last_readable : (before now : Held S) (old mid : M) (was : HasVisited g form next table selection first before old mid) (row : Row) (after : Option Row) → GivesNext g (OfTable table selection) first now was.0 after → after ≡ Some row
       → HasCleanDisk (state g now) → (c : Contents) → HasIn form (state g first).now c → AreDated (in_microseconds form c).versions → ShowsReadable form row
   last_readable before now old mid was row after gives is clean c has dated =
-      let on : HasGivenRows g table selection first now (was.0 ++ row ∷ []) = rw is at gives in
+      let on : HasGivenRows g (OfTable table selection) first now (was.0 ++ row ∷ []) = rw is at gives in
       let shows = on.rows clean (written_in form c) has.rows in
       given_readable form c table selection shows.1.0 was.0 row shows.0 has.values dated shows.1.1 shows.1.2

@@ -135,9 +135,8 @@ pub record AreReadAs (form : Form) (tables : List TableDef) (clock : ℤ) (rows 
   pub listed : (number : ℕ) → map (version_in number) (rows_of_table lists number)
       ≡ map (version_of form) (of_table number versions)
 
--- the rows of all three
-pub record AreStoreRows (metas tables versions : List Row) (known : List TableDef) (form : Form)
+-- the rows of bt_meta and of bt_table have this form, this clock and these definitions
+pub record AreDefinitions (metas tables : List Row) (known : List TableDef) (form : Form)
     (clock : ℤ) : Type 0 where
   pub meta : AreMetaRows metas form clock
   pub defined : AreTables tables known
-  pub each : AllByRecursion (IsVersionRow form known clock) versions

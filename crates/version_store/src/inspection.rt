@@ -1,8 +1,8 @@
 //! The judge of a store's rows, as its database has them.
 
-ghost use Rattle.std.specs.Prelude.{◌≡◌, [], false, IfErr, IfOk, IsTrue};
+ghost use Rattle.std.specs.Prelude.{◌≡◌, ◌≢◌, [], false, IfErr, IfOk, IsTrue, OnOk};
 ghost use Rattle.sqlite.specs.Held.{state};
-ghost use Rattle.sqlite.specs.State.{HasCleanDisk};
+ghost use Rattle.sqlite.specs.State.{HasCleanDisk, IsUnchanged};
 ghost use Rattle.version_tables.specs.Good.{IsClock};
 ghost use Rattle.version_tables.specs.Represents.{HaveOwnRowids};
 ghost use Rattle.version_tables.specs.Steps.{Keeps, KeepsFaults};
@@ -15,16 +15,79 @@ ghost use Rattle.version_store.specs.Written.{HasIn};
 ghost use Rattle.version_store.specs.declared.fault.OpenFault.TheVariants.{BadStore};
 
 use crate::fault::{OpenFault, StoreFault};
-use crate::row_checks::check_rows;
+use crate::row_checks::check_definitions;
+use crate::version_lists::read_versions;
 use catalog_core::Catalog;
 use period_core::{Items, VersionRow};
 use sqlite::Connection;
 use sqlite_trees::store::Alter;
 use std::alloc::Global;
 use version_tables::{
-    Form, are_numbered, are_rising, columns_there, meta_rows, repeat_key, rowids, table_rows,
-    version_rows,
+    Form, are_numbered, are_rising, columns_there, meta_rows, repeats_key, rowids, table_rows,
 };
+
+/// Judges the numbers (`rowid`) of all versions: each has one, and no other has it.
+fn check_numbers<S: Alter>(connection: &mut Connection<S>) -> Result<(), OpenFault>
+    requires { connection.old.in_transaction ≡ false }
+    ensures own { HasCleanDisk (state S.Store connection.new)
+        → HasStoreTables (state S.Store connection.old).now.schema
+        → OnOk result (HaveOwnRowids ((state S.Store connection.old).now.trees 2)) }
+    ensures unchanged { HasCleanDisk (state S.Store connection.new)
+        → OnOk result (IsUnchanged (state S.Store connection.old) (state S.Store connection.new)) }
+    ensures why { HasCleanDisk (state S.Store connection.new)
+        → HasStoreTables (state S.Store connection.old).now.schema
+        → IsTrue (state S.Store connection.old).is_open
+        → HaveOwnRowids ((state S.Store connection.old).now.trees 2)
+        → IfErr result (IsUnread (state S.Store connection.old) (state S.Store connection.new)) }
+    ensures other { IfErr result (λ fault. fault ≢ BadStore) }
+    ensures same { HasCleanDisk (state S.Store connection.new)
+        → Keeps (state S.Store connection.old) (state S.Store connection.new) }
+    ensures clean { HasCleanDisk (state S.Store connection.new)
+        → HasCleanDisk (state S.Store connection.old) }
+    ensures faults { KeepsFaults (state S.Store connection.old) (state S.Store connection.new) }
+    ensures mode { connection.new.in_transaction ≡ false }
+{
+    let ids = rowids(connection)?;
+    if !are_numbered(&ids) {
+        return Err(OpenFault::Store(StoreFault::Database));
+    }
+    if !are_rising(&ids) {
+        return Err(OpenFault::Store(StoreFault::Database));
+    }
+    Ok(())
+}
+
+/// Judges the numbers of all versions, and their keys, which are the table, the values, the first
+/// day and the first moment: no two versions have one number or one key.
+fn check_keys<S: Alter>(connection: &mut Connection<S>) -> Result<(), OpenFault>
+    requires { connection.old.in_transaction ≡ false }
+    ensures own { HasCleanDisk (state S.Store connection.new)
+        → HasStoreTables (state S.Store connection.old).now.schema
+        → OnOk result (HaveOwnRowids ((state S.Store connection.old).now.trees 2)) }
+    ensures unchanged { HasCleanDisk (state S.Store connection.new)
+        → OnOk result (IsUnchanged (state S.Store connection.old) (state S.Store connection.new)) }
+    ensures why { HasCleanDisk (state S.Store connection.new)
+        → HasStoreTables (state S.Store connection.old).now.schema
+        → IsTrue (state S.Store connection.old).is_open
+        → HaveOwnRowids ((state S.Store connection.old).now.trees 2)
+        → IfErr result (IsUnread (state S.Store connection.old) (state S.Store connection.new)) }
+    ensures other { HasCleanDisk (state S.Store connection.new)
+        → HasStoreTables (state S.Store connection.old).now.schema
+        → IfErr result (λ fault. fault ≢ BadStore) }
+    ensures same { HasCleanDisk (state S.Store connection.new)
+        → Keeps (state S.Store connection.old) (state S.Store connection.new) }
+    ensures clean { HasCleanDisk (state S.Store connection.new)
+        → HasCleanDisk (state S.Store connection.old) }
+    ensures faults { KeepsFaults (state S.Store connection.old) (state S.Store connection.new) }
+    ensures mode { connection.new.in_transaction ≡ false }
+{
+    check_numbers(connection)?;
+    let repeated = repeats_key(connection)?;
+    if repeated {
+        return Err(OpenFault::BadStore);
+    }
+    Ok(())
+}
 
 /// Judges a store's rows. On `Ok` it has its tables, its form, its clock, a number in the
 /// form's unit, and the version rows of each table.
@@ -72,16 +135,8 @@ pub(crate) fn inspect<S: Alter>(
     let _live = connection.schema();
     let metas = meta_rows(connection)?;
     let tables = table_rows(connection)?;
-    let versions = version_rows(connection)?;
-    let ids = rowids(connection)?;
-    if !are_numbered(&ids) {
-        return Err(OpenFault::Store(StoreFault::Database));
-    }
-    if !are_rising(&ids) {
-        return Err(OpenFault::Store(StoreFault::Database));
-    }
-    if repeat_key(&versions) {
-        return Err(OpenFault::BadStore);
-    }
-    check_rows(alloc, &metas, &tables, versions)
+    check_keys(connection)?;
+    let (catalog, form, clock) = check_definitions(alloc, &metas, &tables)?;
+    let lists = read_versions(alloc, form, &catalog, clock, connection)?;
+    Ok((catalog, form, clock, lists))
 }

@@ -16,6 +16,7 @@ mod runs;
 mod scans;
 mod store;
 mod transactions;
+mod version_lists;
 mod version_reader;
 mod visitor;
 mod written_rows;

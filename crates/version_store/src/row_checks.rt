@@ -1,23 +1,26 @@
 //! The rows of the three tables, judged.
 
-ghost use Rattle.std.specs.Prelude.{◌≡◌, ◌⊎◌, ◌≤◌, ◌<◌, ℕ, ℤ, List, [], IfErr, IfOk, OnOk, true};
+ghost use Rattle.std.specs.Prelude.{◌≡◌, ◌≤◌, ◌<◌, ℕ, ℤ, List, [], IfErr, IfOk, OnOk, true};
 ghost use Rattle.std.specs.Prelude.{length};
-ghost use Rattle.std.specs.List.{AllByRecursion};
+ghost use Rattle.std.specs.List.{All};
 ghost use Rattle.catalog_core.specs.Limits.{most_tables};
 ghost use Rattle.catalog_core.specs.table.TableWords.{has_date_period, has_distinct_names};
+ghost use Rattle.period_core.specs.declared.version.VersionRow.{VersionRow as AnyRow};
+ghost use Rattle.period_core.specs.Encoding.{IsColumnValue, IsEncoding, encoded};
+ghost use Rattle.period_core.specs.declared.decoding.DecodeFault.TheVariants.{Malformed};
 ghost use Rattle.catalog_core.specs.declared.table.TableDef.{TableDef as AnyTable};
 ghost use Rattle.version_tables.specs.declared.form.Form.{Form as AnyForm};
 ghost use Rattle.version_store.specs.Contents.{HasMore, rows_of_table};
 ghost use Rattle.version_store.specs.Faults.{IsJudgement};
-ghost use Rattle.version_store.specs.GoodStore.{AreReadAs, AreTables, IsReadAs, IsTableRow};
-ghost use Rattle.version_store.specs.GoodStore.{AreStoreRows, IsVersionRow};
+ghost use Rattle.version_store.specs.GoodStore.{AreDefinitions, AreTables, IsReadAs, IsTableRow};
+ghost use Rattle.version_store.specs.GoodStore.{IsVersionRow};
 ghost use Rattle.version_store.specs.declared.fault.OpenFault.TheVariants.{BadStore};
 
 use crate::fault::OpenFault;
 use crate::row_values::are_row_values;
 use crate::version_reader::dated_row;
 use catalog_core::{Catalog, MOST_TABLES, TableDef, decode_def, lawful};
-use period_core::{Items, Memory, Values, VersionRow, decode_values};
+use period_core::{DecodeFault, Items, Memory, Value, Values, VersionRow, decode_values};
 use sqlite::Row;
 use std::alloc::Global;
 use version_tables::{Form, bytes_at, clock_of, is_definition, is_version, number_at};
@@ -64,6 +67,18 @@ fn read_tables(alloc: Global, rows: &[Row]) -> Result<Catalog, OpenFault>
     Ok(catalog)
 }
 
+/// The values whose encoding these bytes are, in a list without room for more: those of a current
+/// row stay in memory.
+fn exact_values(alloc: Global, bytes: &[u8]) -> Result<Vec<Value>, DecodeFault>
+    ensures found { IfOk result (λ values. encoded values.items ≡ bytes.now) }
+    ensures held { IfOk result (λ values. All IsColumnValue values.items) }
+    ensures malformed { IfErr result (λ fault. fault ≡ Malformed → IsEncoding bytes.now → ⊥) }
+{
+    let mut values = decode_values(alloc, bytes)?;
+    values.shrink_to_fit();
+    Ok(values)
+}
+
 /// Judges the row of a version, by the form, the tables and the clock. On `Ok` it has the number of
 /// its table, and what it is read as.
 fn check_version(
@@ -94,7 +109,7 @@ fn check_version(
     let Some(definition) = catalog.def(number) else {
         return Err(OpenFault::BadStore);
     };
-    let values = decode_values(alloc, bytes)?;
+    let values = exact_values(alloc, bytes)?;
     if !are_row_values(definition, values.as_slice()) {
         return Err(OpenFault::BadStore);
     }
@@ -105,7 +120,7 @@ fn check_version(
 }
 
 /// Makes `count` lists without rows.
-fn no_rows(alloc: Global, count: usize) -> Result<Vec<Items<VersionRow>>, Memory>
+pub(crate) fn no_rows(alloc: Global, count: usize) -> Result<Vec<Items<VersionRow>>, Memory>
     ensures count { IfOk result (λ lists. length lists.items ≡ count) }
     ensures none { IfOk result (λ lists. (number : ℕ) → rows_of_table lists.items number ≡ []) }
 {
@@ -127,52 +142,45 @@ fn push_row(lists: &mut Vec<Items<VersionRow>>, number: u8, row: VersionRow) -> 
     list.push(row)
 }
 
-/// Judges the rows of the versions, each of which is dropped as soon as it is read. On `Ok` it has
-/// what they are read as: the version rows of each table.
-fn check_versions(
+/// Judges the row of a version, and adds what it is read as to the list of its table.
+pub(crate) fn read_row(
     alloc: Global,
     form: Form,
     catalog: &Catalog,
     clock: i64,
-    rows: Vec<Row>,
-) -> Result<Vec<Items<VersionRow>>, OpenFault>
-    ensures good { IfOk result
-        (λ _. AllByRecursion (IsVersionRow form catalog.now.tables clock) rows.items) }
-    ensures read { IfOk result
-        (λ lists. AreReadAs form catalog.now.tables clock rows.items lists.items) }
+    row: &Row,
+    lists: &mut Vec<Items<VersionRow>>,
+) -> Result<(), OpenFault>
+    requires { length lists.old.items ≡ length catalog.now.tables }
+    ensures read { OnOk result ((number : ℕ) × (read : AnyRow)
+        × IsReadAs form catalog.now.tables clock row.now number read
+        × HasMore number read lists.old.items lists.new.items) }
     ensures bad { IfErr result (λ fault. fault ≡ BadStore
-        → ¬ AllByRecursion (IsVersionRow form catalog.now.tables clock) rows.items) }
+        → ¬ IsVersionRow form catalog.now.tables clock row.now) }
     ensures named { IfErr result IsJudgement }
 {
-    let mut lists = no_rows(alloc, catalog.len())?;
-    for row in rows {
-        let (number, version) = check_version(alloc, form, catalog, clock, &row)?;
-        push_row(&mut lists, number, version)?;
-    }
-    Ok(lists)
+    let (number, version) = check_version(alloc, form, catalog, clock, row)?;
+    push_row(lists, number, version)?;
+    Ok(())
 }
 
-/// Judges the rows of the three tables. On `Ok` it has the tables, the form, the clock, a number
-/// in the form's unit, and the version rows of each table.
-pub(crate) fn check_rows(
+/// Judges the rows of bt_meta and bt_table. On `Ok` it has the tables, the form and the clock, a
+/// number in the form's unit.
+pub(crate) fn check_definitions(
     alloc: Global,
     metas: &[Row],
     tables: &[Row],
-    versions: Vec<Row>,
-) -> Result<(Catalog, Form, i64, Vec<Items<VersionRow>>), OpenFault>
-    ensures good { IfOk result (λ found.
-        AreStoreRows metas.now tables.now versions.items found.0.tables found.1 found.2) }
-    ensures read { IfOk result (λ found.
-        AreReadAs found.1 found.0.tables found.2 versions.items found.3.items) }
+) -> Result<(Catalog, Form, i64), OpenFault>
+    ensures good { IfOk result
+        (λ found. AreDefinitions metas.now tables.now found.0.tables found.1 found.2) }
     ensures bad { IfErr result (λ fault. fault ≡ BadStore
         → (known : List AnyTable) (form : AnyForm) (clock : ℤ)
-        → ¬ AreStoreRows metas.now tables.now versions.items known form clock) }
+        → ¬ AreDefinitions metas.now tables.now known form clock) }
     ensures named { IfErr result IsJudgement }
 {
     let Some((form, clock)) = clock_of(metas) else {
         return Err(OpenFault::BadStore);
     };
     let catalog = read_tables(alloc, tables)?;
-    let lists = check_versions(alloc, form, &catalog, clock, versions)?;
-    Ok((catalog, form, clock, lists))
+    Ok((catalog, form, clock))
 }

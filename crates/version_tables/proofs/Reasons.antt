@@ -150,6 +150,10 @@ select_fails old new table selection has =
     fails_with_reason (select_text selection) (select_query selection) (codes "vals" ∷ codes "s" ∷ codes "e" ∷ codes "ss" ∷ codes "se" ∷ []) (select_given table selection) (select_one table selection) (λ others. select_is others selection)
     (select_typed table selection) (select_never (select_given table selection) selection) old new has
 
+pub version_fails : (old new : State) → HasStoreTables old.now.schema → (e : Error) → FailsToQuery version_rows_text [] old new e → HasReason old new e
+version_fails =
+    fails_with_reason version_rows_text (whole 2 version_project version_order) version_names [] version_one version_asks (λ others. refl) (λ db over. elim over [ inl group ↦ group | inr some ↦ none_of _ some ])
+
 abbrev FailsWith : List ℕ → Type 1
 FailsWith text = (old new : State) → HasStoreTables old.now.schema → (r : Result (Vec Row Global) Error) → IfErr r (FailsToQuery text [] old new) → IfErr r (HasReason old new)
 
@@ -158,9 +162,6 @@ meta_fails = query_fails meta_rows_text (whole 0 meta_project meta_order) meta_n
 
 pub table_fails : FailsWith table_rows_text
 table_fails = query_fails table_rows_text (whole 1 table_project meta_order) table_names [] table_one table_asks (λ others. refl) (λ db over. elim over [ inl group ↦ group | inr some ↦ none_of _ some ])
-
-pub version_fails : FailsWith version_rows_text
-version_fails = query_fails version_rows_text (whole 2 version_project version_order) version_names [] version_one version_asks (λ others. refl) (λ db over. elim over [ inl group ↦ group | inr some ↦ none_of _ some ])
 
 pub rowid_fails : FailsWith rowids_text
 rowid_fails = query_fails rowids_text (whole 2 rowid_project meta_order) rowid_names [] rowid_one rowid_asks (λ others. refl) (λ db over. elim over [ inl group ↦ group | inr some ↦ none_of _ some ])

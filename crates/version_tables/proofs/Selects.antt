@@ -13,7 +13,7 @@ use Rattle.sqlite_resolve.specs.Lowering.{Checked, and_then}
 use Rattle.sqlite_resolve.specs.declared.compiled.Compiled.{Compiled}
 use Rattle.sqlite_syntax.specs.declared.statement.Parsed.{Parsed}
 use Rattle.sqlite_tied.specs.Compute.{everything}
-use Rattle.version_tables.specs.Texts.{whole_text, ending_text, overlapping_text, meta_rows_text, table_rows_text, version_rows_text, rowids_text, run_keys_text, number_text}
+use Rattle.version_tables.specs.Texts.{whole_text, ending_text, overlapping_text, meta_rows_text, table_rows_text, version_rows_text, rowids_text, run_keys_text, number_text, keys_text}
 use Rattle.version_tables.specs.Selections.{select_text}
 use Rattle.version_tables.specs.declared.selection.Selection.{Selection}
 use Rattle.version_tables.specs.declared.selection.Selection.TheVariants.{Whole, EndingAt, Overlapping}
@@ -68,6 +68,10 @@ run_reads schema base = refl
 pub number_reads : IsQueryText number_text
 unfolding first everything
 number_reads schema base = refl
+
+pub keys_read : IsQueryText keys_text
+unfolding first everything
+keys_read schema base = refl
 
 -- ---- so nothing that is compiled of it has
 

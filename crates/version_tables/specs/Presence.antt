@@ -1,8 +1,10 @@
--- The three tables that a schema has, and their columns, whatever else it has.
-use Rattle.std.specs.Prelude.{◌≡◌, ◌&&◌, ℕ, Bool, List, [], ◌∷◌, None, IsSome, codes}
-use Rattle.std.specs.Prelude.{is_some}
-use Rattle.std.specs.List.{list_all, list_any}
+-- The three tables that a schema has, their columns and the key of bt_version, whatever else it
+-- has.
+use Rattle.std.specs.Prelude.{◌≡◌, ◌&&◌, ℕ, Bool, true, List, [], ◌∷◌, None, Some, IsSome}
+use Rattle.std.specs.Prelude.{codes, is_some}
+use Rattle.std.specs.List.{Any, list_all, list_any}
 use Rattle.sqlite.specs.Schema.{Schema}
+use Rattle.sqlite.specs.Table.{Table}
 use Rattle.sqlite_schema.specs.Names.{column_named, same_name, table_named}
 
 -- the schema has none of the three tables
@@ -47,3 +49,19 @@ have_columns s =
     has_columns s (codes "bt_meta") meta_columns
     && (has_columns s (codes "bt_table") definition_columns
     && has_columns s (codes "bt_version") version_columns)
+
+-- ---- the key of bt_version
+
+-- the table is named bt_version, and its primary key has the columns tab, vals, s and ss, which are
+-- where the store has them
+pub record IsKeyed (t : Table) : Type 0 where
+  pub name : same_name t.name (codes "bt_version") ≡ true
+  pub places : t.primary ≡ 1 ∷ 2 ∷ 3 ∷ 5 ∷ []
+  pub table : column_named t (codes "tab") ≡ Some 0
+  pub values : column_named t (codes "vals") ≡ Some 1
+  pub start : column_named t (codes "s") ≡ Some 2
+  pub from : column_named t (codes "ss") ≡ Some 4
+
+-- a table with the name exists, and has the key that the store makes
+abbrev pub HasVersionKey : Schema → Type 0
+HasVersionKey s = Any IsKeyed s.tables

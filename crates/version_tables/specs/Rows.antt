@@ -45,7 +45,7 @@ AreRising rows =
     (k : ℕ) → k + 1 < length rows
     → Rise (slice_index_or rows k []) (slice_index_or rows (k + 1) [])
 
--- ---- the key of bt_version
+-- ---- the keys of bt_version
 
 -- both rows have one integer at the place
 abbrev pub ShareNumber : Row → Row → ℕ → Type 0
@@ -55,15 +55,15 @@ ShareNumber a b at = (n : ℤ) × IsNumberAt a at n × IsNumberAt b at n
 abbrev pub ShareBytes : Row → Row → ℕ → Type 0
 ShareBytes a b at = (bytes : List ℕ) × AreBytesAt a at bytes × AreBytesAt b at bytes
 
--- two rows of bt_version are of one key: table, values, period start, system start
-pub record HaveOneKey (a b : Row) : Type 0 where
+-- two rows are one key of bt_version: table, values, period start, system start
+pub record AreOneKey (a b : Row) : Type 0 where
   pub table : ShareNumber a b 0
   pub values : ShareBytes a b 1
   pub start : ShareNumber a b 2
-  pub from : ShareNumber a b 4
+  pub from : ShareNumber a b 3
 
--- a row and the row after it are of one key
+-- a row and the row after it are one key
 abbrev pub RepeatKey : List Row → Type 0
 RepeatKey rows =
     (k : ℕ) × (k + 1 < length rows)
-    × HaveOneKey (slice_index_or rows k []) (slice_index_or rows (k + 1) [])
+    × AreOneKey (slice_index_or rows k []) (slice_index_or rows (k + 1) [])

@@ -153,3 +153,7 @@ version_rows_text = codes "SELECT tab, vals, s, e, ss, se FROM bt_version"
 -- the numbers of all versions, in order
 abbrev pub rowids_text : List ℕ
 rowids_text = codes "SELECT rowid FROM bt_version ORDER BY rowid"
+
+-- the keys of all versions, in order
+abbrev pub keys_text : List ℕ
+keys_text = codes "SELECT tab, vals, s, ss FROM bt_version ORDER BY tab, vals, s, ss"

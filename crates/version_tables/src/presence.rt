@@ -1,10 +1,11 @@
 //! The three tables that a database has, and whether they have their columns. Other tables
 //! don't matter.
 
-ghost use Rattle.std.specs.Prelude.{◌≡◌, ◌↔◌, ◌&&◌, codes, is_some};
+ghost use Rattle.std.specs.Prelude.{◌≡◌, ◌↔◌, ◌&&◌, IsTrue, codes, is_some};
 ghost use Rattle.sqlite.specs.Held.{state};
 ghost use Rattle.sqlite_schema.specs.Names.{column_named, same_name};
 ghost use Rattle.version_tables.specs.Presence.{HasEachStoreTable, HasNoStoreTable};
+ghost use Rattle.version_tables.specs.Presence.{HasVersionKey, IsKeyed};
 ghost use Rattle.version_tables.specs.Presence.{definition_columns, has_column, has_columns};
 ghost use Rattle.version_tables.specs.Presence.{have_columns, meta_columns, version_columns};
 
@@ -92,4 +93,25 @@ pub fn columns_there<S: Alter>(connection: &Connection<S>) -> bool
 {
     let schema = connection.schema();
     has_meta_columns(schema) && has_definition_columns(schema) && has_version_columns(schema)
+}
+
+/// Whether the table is named bt_version and has the key of it, in columns where `create` has them.
+fn is_keyed(table: &Table) -> bool
+    ensures { IsTrue result ↔ IsKeyed table.now }
+{
+    table.is_named(b"bt_version")
+        && matches!(table.primary.as_slice(), [1, 2, 3, 5])
+        && table.column_named(b"tab") == Some(0)
+        && table.column_named(b"vals") == Some(1)
+        && table.column_named(b"s") == Some(2)
+        && table.column_named(b"ss") == Some(4)
+}
+
+/// Whether bt_version exists with the key that `create` gives it. An open connection then has no
+/// two rows of one key.
+pub(crate) fn key_there<S: Alter>(connection: &Connection<S>) -> bool
+    ensures { IsTrue result ↔ HasVersionKey (state S.Store connection.now).now.schema }
+{
+    let schema = connection.schema();
+    schema.tables.as_slice().iter().any(is_keyed)
 }

@@ -6,8 +6,7 @@ ghost use Rattle.period_core.specs.Calendar.{IsDayNumber};
 ghost use Rattle.version_tables.specs.declared.form.Form.{Form as AnyForm};
 ghost use Rattle.version_tables.specs.Good.{AreDays, AreMoments, IsClock, IsDefinition, IsKnown};
 ghost use Rattle.version_tables.specs.Good.{IsRecordedBy, AreMetaRows, IsVersionRow};
-ghost use Rattle.version_tables.specs.Rows.{AreNumbered, AreRising, HaveOneKey, RepeatKey};
-ghost use Rattle.version_tables.specs.Rows.{Rise, ShareBytes, ShareNumber};
+ghost use Rattle.version_tables.specs.Rows.{AreNumbered, AreRising, Rise};
 
 use crate::columns::{bytes_at, number_at};
 use crate::form::Form;
@@ -179,52 +178,4 @@ pub fn are_rising(rows: &[Row]) -> bool
         }
     }
     true
-}
-
-/// Whether two rows have one number in the column at a place.
-fn share_number(first: &Row, second: &Row, at: usize) -> bool
-    ensures { IsTrue result ↔ ShareNumber first.now second.now at }
-{
-    let Some(one) = number_at(first, at) else {
-        return false;
-    };
-    let Some(other) = number_at(second, at) else {
-        return false;
-    };
-    one == other
-}
-
-fn share_bytes(first: &Row, second: &Row, at: usize) -> bool
-    ensures { IsTrue result ↔ ShareBytes first.now second.now at }
-{
-    let Some(one) = bytes_at(first, at) else {
-        return false;
-    };
-    let Some(other) = bytes_at(second, at) else {
-        return false;
-    };
-    one == other
-}
-
-/// Whether both rows are of one key: the table, the values, the two starts.
-fn have_one_key(first: &Row, second: &Row) -> bool
-    ensures { IsTrue result ↔ HaveOneKey first.now second.now }
-{
-    share_number(first, second, 2)
-        && share_number(first, second, 4)
-        && share_number(first, second, 0)
-        && share_bytes(first, second, 1)
-}
-
-/// Whether a row of bt_version and the row after it are of one key. If the rows are by key, as
-/// the query shows them, no two are of one key if this is false.
-pub fn repeat_key(rows: &[Row]) -> bool
-    ensures { IsTrue result ↔ RepeatKey rows.now }
-{
-    for at in 1..rows.len() {
-        if have_one_key(&rows[at - 1], &rows[at]) {
-            return true;
-        }
-    }
-    false
 }

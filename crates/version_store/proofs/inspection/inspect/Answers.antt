@@ -1,95 +1,75 @@
-use Rattle.std.proofs.Common.{◌≡◌, ◌∙◌, [], Err, List, Ok, Result, inl, inr, map, refl, subst, subst₂, sym}
-use Rattle.std.specs.Prelude.{IfErr}
+use Rattle.std.proofs.Common.{◌≡◌, ◌∙◌, ℤ, [], List, inl, inr, map, of_z, refl, rules, subst, subst₂, sym, to_z, w64}
 use Rattle.std.specs.List.Sorted.{IsPermutation}
-use Rattle.std.proofs.lemmas.Result.{IfOk-weaker, err_from_is_err_and}
+use Rattle.std.proofs.lemmas.List.Sorted.{IsPermutation-refl}
+use Rattle.std.proofs.lemmas.Result.{err_from_is_err_and}
 use Rattle.sqlite.specs.Effect.{Database}
 use Rattle.sqlite.specs.Held.{state}
 use Rattle.sqlite.specs.Order.{Row}
 use Rattle.version_tables.proofs.ColumnFacts.{never}
 use Rattle.version_tables.proofs.There.{store_has_columns}
-use Rattle.version_tables.proofs.Ordered.{own_rowids, rowids_rise}
-use Rattle.version_tables.proofs.Whole.{in_some_order}
-use Rattle.version_tables.specs.Rows.{AreNumbered, AreRising, InOrder, by_rowid}
+use Rattle.version_tables.specs.Giving.{AreVersions}
+use Rattle.version_tables.specs.Good.{IsClock}
+use Rattle.version_tables.specs.Represents.{HaveOwnRowids, meta_shown, table_shown, version_shown}
+use Rattle.version_tables.specs.Rows.{InOrder, by_rowid}
 use Rattle.version_tables.specs.Tables.{HasStoreTables}
-use Rattle.sqlite.specs.State.{State}
-use Rattle.version_store.specs.Faults.{IsJudgement, IsUnread}
-use Rattle.version_store.specs.GoodStore.{IsGoodStore, NoExtraCondition}
-use Rattle.version_store.specs.declared.fault.OpenFault.{OpenFault}
-use Rattle.version_store.specs.declared.fault.OpenFault.TheVariants.{BadStore}
 use Rattle.version_store.proofs.AfterCalls.{unread_by, unread_since}
-use Rattle.version_tables.specs.Represents.{HaveOwnRowids, meta_shown, rowid_shown, table_shown, version_shown}
+use Rattle.version_store.proofs.Judged.{other_versions}
 use Rattle.version_store.proofs.Keys.{keys_kept}
-use Rattle.version_store.proofs.Opens.{all_lawful, found_contents, judged_bad, judged_good}
-use Rattle.version_store.proofs.ReadRows.{versions_read}
-use Rattle.version_store.proofs.Twins.{good_keys}
+use Rattle.version_store.proofs.Opens.{all_lawful, has_contents, points_fail, points_hold}
+use Rattle.version_store.proofs.ReadRows.{say_all, versions_read}
+use Rattle.version_store.specs.GoodStore.{AreDefinitions}
 use Rattle.version_store.proofs.inspection.inspect.Goals as goal
 
 pub returns-clause-good : goal.returns-clause-good
 returns-clause-good g c clean on has =
     let old = (state g.S.Store c.args.connection.now).now in
-    let clean3 = c.in_ok-ids.ensures.reads.clean clean in
-    let clean2 = c.in_ok-versions.ensures.reads.clean clean3 in
+    let clean3 = c.in_ok-lists.ensures.clean clean in
+    let clean2 = c.check_keys.ensures.clean clean3 in
     let clean1 = c.in_ok-tables.ensures.reads.clean clean2 in
     let u1 = c.in_ok-metas.ensures.reads.unchanged clean1 in
     let now1 = u1.0.now_is in
     let has1 = subst (λ (d : Database). HasStoreTables d.schema) (sym now1) has in
-    let u2 = c.in_ok-tables.ensures.reads.unchanged clean2 in
-    let now2 = u2.0.now_is ∙ now1 in
+    let now2 = (c.in_ok-tables.ensures.reads.unchanged clean2).0.now_is ∙ now1 in
     let has2 = subst (λ (d : Database). HasStoreTables d.schema) (sym now2) has in
-    let u3 = c.in_ok-versions.ensures.reads.unchanged clean3 in
-    let now3 = u3.0.now_is ∙ now2 in
+    let now3 = (c.in_ok-check_keys.ensures.unchanged clean3).0.now_is ∙ now2 in
     let has3 = subst (λ (d : Database). HasStoreTables d.schema) (sym now3) has in
-    let was_open = u1.0.was_open in
-    let pm = subst (IsPermutation (map meta_shown (old.trees 0))) (sym c.deref-4.ensures.value) (c.in_ok-metas.ensures.shows clean1 has) in
-    let pt = subst₂ (λ (d : Database) (rows : List Row). InOrder table_shown by_rowid (d.trees 1) rows) now1 (sym c.deref-5.ensures.value) (c.in_ok-tables.ensures.shows clean2 has1) in
-    let pv = subst (λ (d : Database). IsPermutation (map version_shown (d.trees 2)) c.in_ok-versions.versions.items) now2 (c.in_ok-versions.ensures.shows clean3 has2) in
-    let ids = c.in_ok-ids.ids.items in
-    let same = subst (λ (d : Database). IsPermutation (map rowid_shown (d.trees 2)) ids) now3 (in_some_order rowid_shown by_rowid _ ids (c.in_ok-ids.ensures.shows clean has3)) in
-    let numbered = subst AreNumbered c.deref.ensures.value (c.are_numbered.ensures.0 c.if-not-are_numbered.false) in
-    let rising = subst AreRising c.deref-2.ensures.value (c.are_rising.ensures.0 c.if-not-are_rising.false) in
-    let own = own_rowids (old.trees 2) ids same numbered rising in
-    let keys = keys_kept old has (c.schema-live.ensures.live was_open).0 own.0 own.1 in
-    found_contents old own.0 own.1 c.check_rows.result
-    (judged_good old c.deref-4.result.now c.deref-5.result.now c.in_ok-versions.versions.items pm pt pv has keys c.check_rows.result c.check_rows.ensures.good)
+    let pm = subst (IsPermutation (map meta_shown (old.trees 0))) (sym c.deref.ensures.value) (c.in_ok-metas.ensures.shows clean1 has) in
+    let pt = subst₂ (λ (d : Database) (rows : List Row). InOrder table_shown by_rowid (d.trees 1) rows) now1 (sym c.deref-2.ensures.value) (c.in_ok-tables.ensures.shows clean2 has1) in
+    let own = subst (λ (d : Database). HaveOwnRowids (d.trees 2)) now2 (c.in_ok-check_keys.ensures.own clean3 has2) in
+    let keys = keys_kept old has (c.schema-live.ensures.live u1.0.was_open).0 own.0 own.1 in
+    let read = c.in_ok-lists.ensures.read clean has3 in
+    let pv = subst (λ (d : Database). AreVersions d read.0) now3 read.1 in
+    let found = c.in_ok-catalog in
+    let clock : ℤ = to_z w64 (of_z w64 found.clock) in
+    let e : clock ≡ found.clock = search rules in
+    let says = subst (AreDefinitions c.deref.result.now c.deref-2.result.now found.catalog.tables found.form) (sym e) found.ensures.good in
+    let good = points_hold old c.deref.result.now c.deref-2.result.now read.0 pm pt pv has keys found.catalog.tables found.form clock says (say_all found.form found.catalog.tables clock read.0 c.in_ok-lists.lists.items read.2) in
+    (good.0, has_contents old good.0 own.0 own.1, good.1, good.2, good.3)
 
 -- the versions read are the versions of whatever contents the database has
 pub returns-clause-versions : goal.returns-clause-versions
-returns-clause-versions g c clean on =
+returns-clause-versions g c clean on d has =
     let old = (state g.S.Store c.args.connection.now).now in
-    let clean3 = c.in_ok-ids.ensures.reads.clean clean in
-    let clean2 = c.in_ok-versions.ensures.reads.clean clean3 in
+    let clean3 = c.in_ok-lists.ensures.clean clean in
+    let clean2 = c.check_keys.ensures.clean clean3 in
     let clean1 = c.in_ok-tables.ensures.reads.clean clean2 in
-    let u1 = c.in_ok-metas.ensures.reads.unchanged clean1 in
-    let u2 = c.in_ok-tables.ensures.reads.unchanged clean2 in
-    let now2 = u2.0.now_is ∙ u1.0.now_is in
-    IfOk-weaker c.check_rows.result _ _
-    (λ found read d has.
-    let has2 = subst (λ (e : Database). HasStoreTables e.schema) (sym now2) has.rows.schema in
-    let pv = subst (λ (e : Database). IsPermutation (map version_shown (e.trees 2)) c.in_ok-versions.versions.items) now2 (c.in_ok-versions.ensures.shows clean3 has2) in
-    versions_read old c.in_ok-versions.versions.items found.1 found.0.tables found.2 found.3.items d pv read has) c.check_rows.ensures.read
-
-pub returns-clause-bad : goal.returns-clause-bad
-returns-clause-bad g c clean on has =
-    let old = (state g.S.Store c.args.connection.now).now in
-    let clean3 = c.in_ok-ids.ensures.reads.clean clean in
-    let clean2 = c.in_ok-versions.ensures.reads.clean clean3 in
-    let clean1 = c.in_ok-tables.ensures.reads.clean clean2 in
-    let u1 = c.in_ok-metas.ensures.reads.unchanged clean1 in
-    let now1 = u1.0.now_is in
-    let has1 = subst (λ (d : Database). HasStoreTables d.schema) (sym now1) has in
-    let u2 = c.in_ok-tables.ensures.reads.unchanged clean2 in
-    let now2 = u2.0.now_is ∙ now1 in
-    let has2 = subst (λ (d : Database). HasStoreTables d.schema) (sym now2) has in
-    let pm = subst (IsPermutation (map meta_shown (old.trees 0))) (sym c.deref-4.ensures.value) (c.in_ok-metas.ensures.shows clean1 has) in
-    let pt = subst₂ (λ (d : Database) (rows : List Row). InOrder table_shown by_rowid (d.trees 1) rows) now1 (sym c.deref-5.ensures.value) (c.in_ok-tables.ensures.shows clean2 has1) in
-    let pv = subst (λ (d : Database). IsPermutation (map version_shown (d.trees 2)) c.in_ok-versions.versions.items) now2 (c.in_ok-versions.ensures.shows clean3 has2) in
-    judged_bad old c.deref-4.result.now c.deref-5.result.now c.in_ok-versions.versions.items pm pt pv c.check_rows.result c.check_rows.ensures.bad
+    let now3 = (c.in_ok-check_keys.ensures.unchanged clean3).0.now_is ∙ (c.in_ok-tables.ensures.reads.unchanged clean2).0.now_is ∙ (c.in_ok-metas.ensures.reads.unchanged clean1).0.now_is in
+    let has3 = subst (λ (e : Database). HasStoreTables e.schema) (sym now3) has.rows.schema in
+    let read = c.in_ok-lists.ensures.read clean has3 in
+    let pv = subst (λ (e : Database). AreVersions e read.0) now3 read.1 in
+    let found = c.in_ok-catalog in
+    versions_read old read.0 found.form found.catalog.tables (to_z w64 (of_z w64 found.clock)) c.in_ok-lists.lists.items d pv read.2 has
 
 pub returns-clause-lawful : goal.returns-clause-lawful
-returns-clause-lawful g c = IfOk-weaker c.check_rows.result _ _ (λ found says. all_lawful [] c.deref-5.result.now found.0.tables says.defined.each) c.check_rows.ensures.good
+returns-clause-lawful g c = all_lawful [] c.deref-2.result.now c.in_ok-catalog.catalog.tables c.in_ok-catalog.ensures.good.defined.each
 
 pub returns-clause-clock : goal.returns-clause-clock
-returns-clause-clock g c = IfOk-weaker c.check_rows.result _ _ (λ found says. says.meta.1) c.check_rows.ensures.good
+returns-clause-clock g c =
+    let found = c.in_ok-catalog in
+    let e : to_z w64 (of_z w64 found.clock) ≡ found.clock = search rules in
+    subst (IsClock found.form) (sym e) found.ensures.good.meta.1
+
+-- ---- a store that is no good one
 
 -- a good store's tables have their columns
 pub returns-then-not-columns_there-clause-bad : goal.returns-then-not-columns_there-clause-bad
@@ -97,20 +77,49 @@ returns-then-not-columns_there-clause-bad g c clean on has = λ _ _.
     let all = store_has_columns (state g.S.Store c.args.connection.now).now.schema has in
     never (sym c.if-not-columns_there.true ∙ c.columns_there.ensures ∙ all)
 
--- no two versions of a good store have one key
-pub returns-then-repeat_key-clause-bad : goal.returns-then-repeat_key-clause-bad
-returns-then-repeat_key-clause-bad g c clean on has = λ _ good.
+pub returns-in_err-check_keys-clause-bad : goal.returns-in_err-check_keys-clause-bad
+returns-in_err-check_keys-clause-bad g c clean on has =
+    let p = err_from_is_err_and c.from_residual-in_err-check_keys.result c.from_residual-in_err-check_keys.ensures.1 in
+    let clean2 = c.check_keys.ensures.clean clean in
+    let now1 = (c.in_ok-metas.ensures.reads.unchanged (c.in_ok-tables.ensures.reads.clean clean2)).0.now_is in
+    let has2 = subst (λ (d : Database). HasStoreTables d.schema) (sym ((c.in_ok-tables.ensures.reads.unchanged clean2).0.now_is ∙ now1)) has in
+    rw (p.1, p.2) (λ bad _. c.in_err-check_keys.ensures.other clean has2 bad)
+
+pub returns-in_err-catalog-clause-bad : goal.returns-in_err-catalog-clause-bad
+returns-in_err-catalog-clause-bad g c clean on has =
     let old = (state g.S.Store c.args.connection.now).now in
-    let clean3 = c.in_ok-ids.ensures.reads.clean clean in
-    let clean2 = c.in_ok-versions.ensures.reads.clean clean3 in
+    let clean2 = c.check_keys.ensures.clean clean in
     let clean1 = c.in_ok-tables.ensures.reads.clean clean2 in
-    let u1 = c.in_ok-metas.ensures.reads.unchanged clean1 in
-    let now1 = u1.0.now_is in
-    let u2 = c.in_ok-tables.ensures.reads.unchanged clean2 in
-    let now2 = u2.0.now_is ∙ now1 in
-    let has2 = subst (λ (d : Database). HasStoreTables d.schema) (sym now2) has in
-    let pv = subst₂ (λ (d : Database) (rows : List Row). IsPermutation (map version_shown (d.trees 2)) rows) now2 (sym c.deref-3.ensures.value) (c.in_ok-versions.ensures.shows clean3 has2) in
-    good_keys old c.deref-3.result.now pv (c.repeat_key.ensures.0 c.if-repeat_key.true) good
+    let now1 = (c.in_ok-metas.ensures.reads.unchanged clean1).0.now_is in
+    let has1 = subst (λ (d : Database). HasStoreTables d.schema) (sym now1) has in
+    let pm = subst (IsPermutation (map meta_shown (old.trees 0))) (sym c.deref.ensures.value) (c.in_ok-metas.ensures.shows clean1 has) in
+    let pt = subst₂ (λ (d : Database) (rows : List Row). InOrder table_shown by_rowid (d.trees 1) rows) now1 (sym c.deref-2.ensures.value) (c.in_ok-tables.ensures.shows clean2 has1) in
+    let p = err_from_is_err_and c.from_residual-in_err-catalog.result c.from_residual-in_err-catalog.ensures.1 in
+    rw (p.1, p.2)
+    (λ bad good. points_fail old c.deref.result.now c.deref-2.result.now (map version_shown (old.trees 2)) pm pt (IsPermutation-refl _) good (λ known form clock says _. c.in_err-catalog.ensures.bad bad known form clock says))
+
+pub returns-in_err-lists-clause-bad : goal.returns-in_err-lists-clause-bad
+returns-in_err-lists-clause-bad g c clean on has =
+    let old = (state g.S.Store c.args.connection.now).now in
+    let clean3 = c.in_err-lists.ensures.clean clean in
+    let clean2 = c.check_keys.ensures.clean clean3 in
+    let clean1 = c.in_ok-tables.ensures.reads.clean clean2 in
+    let now1 = (c.in_ok-metas.ensures.reads.unchanged clean1).0.now_is in
+    let has1 = subst (λ (d : Database). HasStoreTables d.schema) (sym now1) has in
+    let now3 = (c.in_ok-check_keys.ensures.unchanged clean3).0.now_is ∙ (c.in_ok-tables.ensures.reads.unchanged clean2).0.now_is ∙ now1 in
+    let has3 = subst (λ (d : Database). HasStoreTables d.schema) (sym now3) has in
+    let pm = subst (IsPermutation (map meta_shown (old.trees 0))) (sym c.deref.ensures.value) (c.in_ok-metas.ensures.shows clean1 has) in
+    let pt = subst₂ (λ (d : Database) (rows : List Row). InOrder table_shown by_rowid (d.trees 1) rows) now1 (sym c.deref-2.ensures.value) (c.in_ok-tables.ensures.shows clean2 has1) in
+    let ours = c.in_ok-catalog in
+    let clock : ℤ = to_z w64 (of_z w64 ours.clock) in
+    let e : clock ≡ ours.clock = search rules in
+    let says = subst (AreDefinitions c.deref.result.now c.deref-2.result.now ours.catalog.tables ours.form) (sym e) ours.ensures.good in
+    let p = err_from_is_err_and c.from_residual-in_err-lists.result c.from_residual-in_err-lists.ensures.1 in
+    rw (p.1, p.2)
+    (λ bad good.
+    let none = c.in_err-lists.ensures.bad clean has3 bad in
+    points_fail old c.deref.result.now c.deref-2.result.now none.0 pm pt (subst (λ (d : Database). AreVersions d none.0) now3 none.1) good
+    (λ known form other theirs. other_versions c.deref.result.now c.deref-2.result.now none.0 ours.catalog.tables known ours.form form clock other says none.2 theirs))
 
 -- ---- why a good store is not read
 
@@ -132,66 +141,38 @@ returns-in_err-tables-clause-why g c clean on good own =
     let has1 = subst (λ (d : Database). HasStoreTables d.schema) (sym u1.0.now_is) good.tables_there in
     rw p.1 (unread_since (state g.S.Store c.args.connection.now) (state g.S.Store c.meta_rows.new.connection) (state g.S.Store c.table_rows.new.connection) _ c.in_ok-metas.ensures.reads.faults (unread_by (state g.S.Store c.meta_rows.new.connection) (state g.S.Store c.table_rows.new.connection) _ _ p.2.1 (read.why clean has1) u1.0.is_open))
 
-pub returns-in_err-versions-clause-why : goal.returns-in_err-versions-clause-why
-returns-in_err-versions-clause-why g c clean on good own =
-    let p = err_from_is_err_and c.from_residual-in_err-versions.result c.from_residual-in_err-versions.ensures.1 in
-    let read = c.in_err-versions.ensures.reads in
-    let clean2 = read.clean clean in
+pub returns-in_err-check_keys-clause-why : goal.returns-in_err-check_keys-clause-why
+returns-in_err-check_keys-clause-why g c clean on good own =
+    let p = err_from_is_err_and c.from_residual-in_err-check_keys.result c.from_residual-in_err-check_keys.ensures.1 in
+    let clean2 = c.check_keys.ensures.clean clean in
     let clean1 = c.in_ok-tables.ensures.reads.clean clean2 in
     let u1 = c.in_ok-metas.ensures.reads.unchanged clean1 in
     let u2 = c.in_ok-tables.ensures.reads.unchanged clean2 in
-    let has2 = subst (λ (d : Database). HasStoreTables d.schema) (sym (u2.0.now_is ∙ u1.0.now_is)) good.tables_there in
-    let last = unread_by (state g.S.Store c.table_rows.new.connection) (state g.S.Store c.version_rows.new.connection) _ _ p.2.1 (read.why clean has2) u2.0.is_open in
-    rw p.1 (unread_since (state g.S.Store c.args.connection.now) (state g.S.Store c.meta_rows.new.connection) (state g.S.Store c.version_rows.new.connection) _ c.in_ok-metas.ensures.reads.faults (unread_since (state g.S.Store c.meta_rows.new.connection) (state g.S.Store c.table_rows.new.connection) (state g.S.Store c.version_rows.new.connection) _ c.in_ok-tables.ensures.reads.faults last))
+    let now2 = u2.0.now_is ∙ u1.0.now_is in
+    let has2 = subst (λ (d : Database). HasStoreTables d.schema) (sym now2) good.tables_there in
+    let own2 = subst (λ (d : Database). HaveOwnRowids (d.trees 2)) (sym now2) own in
+    let last = c.in_err-check_keys.ensures.why clean has2 u2.0.is_open own2 in
+    rw (p.1, p.2) (unread_since (state g.S.Store c.args.connection.now) (state g.S.Store c.meta_rows.new.connection) (state g.S.Store c.check_keys.new.connection) _ c.in_ok-metas.ensures.reads.faults (unread_since (state g.S.Store c.meta_rows.new.connection) (state g.S.Store c.table_rows.new.connection) (state g.S.Store c.check_keys.new.connection) _ c.in_ok-tables.ensures.reads.faults last))
 
-pub returns-in_err-ids-clause-why : goal.returns-in_err-ids-clause-why
-returns-in_err-ids-clause-why g c clean on good own =
-    let p = err_from_is_err_and c.from_residual-in_err-ids.result c.from_residual-in_err-ids.ensures.1 in
-    let read = c.in_err-ids.ensures.reads in
-    let clean3 = read.clean clean in
-    let clean2 = c.in_ok-versions.ensures.reads.clean clean3 in
+pub returns-in_err-catalog-clause-why : goal.returns-in_err-catalog-clause-why
+returns-in_err-catalog-clause-why g c clean on good own =
+    let p = err_from_is_err_and c.from_residual-in_err-catalog.result c.from_residual-in_err-catalog.ensures.1 in
+    let none = rw (p.1, p.2) at (returns-in_err-catalog-clause-bad g c clean on good.tables_there) in
+    rw (p.1, p.2) (elim c.in_err-catalog.ensures.named [ inl bad ↦ absurd (none bad good) | inr memory ↦ inl memory ])
+
+pub returns-in_err-lists-clause-why : goal.returns-in_err-lists-clause-why
+returns-in_err-lists-clause-why g c clean on good own =
+    let p = err_from_is_err_and c.from_residual-in_err-lists.result c.from_residual-in_err-lists.ensures.1 in
+    let none = rw (p.1, p.2) at (returns-in_err-lists-clause-bad g c clean on good.tables_there) in
+    let clean3 = c.in_err-lists.ensures.clean clean in
+    let clean2 = c.check_keys.ensures.clean clean3 in
     let clean1 = c.in_ok-tables.ensures.reads.clean clean2 in
-    let u1 = c.in_ok-metas.ensures.reads.unchanged clean1 in
-    let u2 = c.in_ok-tables.ensures.reads.unchanged clean2 in
-    let u3 = c.in_ok-versions.ensures.reads.unchanged clean3 in
-    let has3 = subst (λ (d : Database). HasStoreTables d.schema) (sym (u3.0.now_is ∙ u2.0.now_is ∙ u1.0.now_is)) good.tables_there in
-    let last = unread_since (state g.S.Store c.table_rows.new.connection) (state g.S.Store c.version_rows.new.connection) (state g.S.Store c.rowids.new.connection) _ c.in_ok-versions.ensures.reads.faults (unread_by (state g.S.Store c.version_rows.new.connection) (state g.S.Store c.rowids.new.connection) _ _ p.2.1 (read.why clean has3) u3.0.is_open) in
-    rw p.1 (unread_since (state g.S.Store c.args.connection.now) (state g.S.Store c.meta_rows.new.connection) (state g.S.Store c.rowids.new.connection) _ c.in_ok-metas.ensures.reads.faults (unread_since (state g.S.Store c.meta_rows.new.connection) (state g.S.Store c.table_rows.new.connection) (state g.S.Store c.rowids.new.connection) _ c.in_ok-tables.ensures.reads.faults last))
-
--- the rowids of a good store
-module _ (db : Database) (good : IsGoodStore NoExtraCondition db) (own : HaveOwnRowids (db.trees 2)) (ids : List Row) (order : InOrder rowid_shown by_rowid (db.trees 2) ids) where
-  rise : AreNumbered ids × AreRising ids
-  rise = rowids_rise (db.trees 2) ids order own.0 own.1
-
-pub returns-then-not-are_numbered-clause-why : goal.returns-then-not-are_numbered-clause-why
-returns-then-not-are_numbered-clause-why g c clean on good own =
-    let clean3 = c.in_ok-ids.ensures.reads.clean clean in
-    let clean2 = c.in_ok-versions.ensures.reads.clean clean3 in
-    let clean1 = c.in_ok-tables.ensures.reads.clean clean2 in
-    let now3 = (c.in_ok-versions.ensures.reads.unchanged clean3).0.now_is ∙ (c.in_ok-tables.ensures.reads.unchanged clean2).0.now_is ∙ (c.in_ok-metas.ensures.reads.unchanged clean1).0.now_is in
+    let u3 = c.in_ok-check_keys.ensures.unchanged clean3 in
+    let now3 = u3.0.now_is ∙ (c.in_ok-tables.ensures.reads.unchanged clean2).0.now_is ∙ (c.in_ok-metas.ensures.reads.unchanged clean1).0.now_is in
     let has3 = subst (λ (d : Database). HasStoreTables d.schema) (sym now3) good.tables_there in
-    let order = subst (λ (d : Database). InOrder rowid_shown by_rowid (d.trees 2) c.in_ok-ids.ids.items) now3 (c.in_ok-ids.ensures.shows clean has3) in
-    let up = rise _ good own c.in_ok-ids.ids.items order in
-    never (sym c.if-not-are_numbered.true ∙ c.are_numbered.ensures.1 (subst AreNumbered (sym c.deref.ensures.value) up.0))
-
-pub returns-then-not-are_rising-clause-why : goal.returns-then-not-are_rising-clause-why
-returns-then-not-are_rising-clause-why g c clean on good own =
-    let clean3 = c.in_ok-ids.ensures.reads.clean clean in
-    let clean2 = c.in_ok-versions.ensures.reads.clean clean3 in
-    let clean1 = c.in_ok-tables.ensures.reads.clean clean2 in
-    let now3 = (c.in_ok-versions.ensures.reads.unchanged clean3).0.now_is ∙ (c.in_ok-tables.ensures.reads.unchanged clean2).0.now_is ∙ (c.in_ok-metas.ensures.reads.unchanged clean1).0.now_is in
-    let has3 = subst (λ (d : Database). HasStoreTables d.schema) (sym now3) good.tables_there in
-    let order = subst (λ (d : Database). InOrder rowid_shown by_rowid (d.trees 2) c.in_ok-ids.ids.items) now3 (c.in_ok-ids.ensures.shows clean has3) in
-    let up = rise _ good own c.in_ok-ids.ids.items order in
-    never (sym c.if-not-are_rising.true ∙ c.are_rising.ensures.1 (subst AreRising (sym c.deref-2.ensures.value) up.1))
-
-pub returns-then-repeat_key-clause-why : goal.returns-then-repeat_key-clause-why
-returns-then-repeat_key-clause-why g c clean on good own = absurd (returns-then-repeat_key-clause-bad g c clean on good.tables_there refl good)
-
--- a database that is judged and read is found good
-judged_read : (Bad : Type 0) {X : Type 0} (old new : State) (r : Result X OpenFault) → ¬ Bad → IfErr r (λ fault. fault ≡ BadStore → Bad) → IfErr r IsJudgement → IfErr r (IsUnread old new)
-judged_read Bad old new (Ok x) good bad named = tt
-judged_read Bad old new (Err fault) good bad named = elim named [ inl is ↦ absurd (good (bad is)) | inr memory ↦ inl memory ]
-
-pub returns-clause-why : goal.returns-clause-why
-returns-clause-why g c clean on good own = judged_read (¬ IsGoodStore NoExtraCondition (state g.S.Store c.args.connection.now).now) (state g.S.Store c.args.connection.now) (state g.S.Store c.rowids.new.connection) c.check_rows.result (λ none. none good) (returns-clause-bad g c clean on good.tables_there) c.check_rows.ensures.named
+    let new = state g.S.Store c.read_versions.new.connection in
+    rw (p.1, p.2)
+    (elim (c.in_err-lists.ensures.why clean has3 u3.0.is_open) [
+      | inl bad ↦ absurd (none bad good)
+      | inr unread ↦ unread_since (state g.S.Store c.args.connection.now) (state g.S.Store c.meta_rows.new.connection) new _ c.in_ok-metas.ensures.reads.faults (unread_since (state g.S.Store c.meta_rows.new.connection) (state g.S.Store c.table_rows.new.connection) new _ c.in_ok-tables.ensures.reads.faults (unread_since (state g.S.Store c.table_rows.new.connection) (state g.S.Store c.check_keys.new.connection) new _ c.check_keys.ensures.faults unread))
+    ])

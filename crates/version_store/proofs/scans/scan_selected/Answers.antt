@@ -4,6 +4,7 @@ use Rattle.sqlite.specs.Given.{row_if}
 use Rattle.sqlite.specs.Held.{state}
 use Rattle.sqlite.specs.State.{HasCleanDisk}
 use Rattle.version_tables.specs.Giving.{IsAfterQuery}
+use Rattle.version_tables.specs.Selections.{OfTable}
 use Rattle.version_store.specs.Scans.{chosen_of}
 use Rattle.version_store.proofs.Scanned.{all_visits, last_readable, none_yet, one_visited, some_visits}
 use Rattle.version_store.proofs.AfterCalls.{failed_by}
@@ -30,14 +31,14 @@ pub returns-in-Err-to_next_row-clause-same : goal.returns-in-Err-to_next_row-cla
 returns-in-Err-to_next_row-clause-same g c =
     let selection = c.args.selection in
     let was = c.rows.invariant.visited in
-    let left : IsAfterQuery g.S.Store c.args.connection.now c.to_next_row.new.rows.conn.now = c.in-Err-to_next_row.ensures.left c.args.table selection c.args.connection.now was.0 was.1 in
+    let left : IsAfterQuery g.S.Store c.args.connection.now c.to_next_row.new.rows.conn.now = c.in-Err-to_next_row.ensures.left (OfTable c.args.table selection) c.args.connection.now was.0 was.1 in
     search rules
 
 pub returns-in-Err-to_next_row-clause-clean : goal.returns-in-Err-to_next_row-clause-clean
 returns-in-Err-to_next_row-clause-clean g c =
     let selection = c.args.selection in
     let was = c.rows.invariant.visited in
-    let left : IsAfterQuery g.S.Store c.args.connection.now c.to_next_row.new.rows.conn.now = c.in-Err-to_next_row.ensures.left c.args.table selection c.args.connection.now was.0 was.1 in
+    let left : IsAfterQuery g.S.Store c.args.connection.now c.to_next_row.new.rows.conn.now = c.in-Err-to_next_row.ensures.left (OfTable c.args.table selection) c.args.connection.now was.0 was.1 in
     search rules
 
 -- the query has no more rows
@@ -49,7 +50,7 @@ returns-in_default-get-clause-visited g c clean d has chooses sure =
     let now = c.to_next_row.new.rows in
     let none : row_if now.has_row now.conn.now ≡ None = sym c.get.ensures ∙ ap option_copied c.in_default-get.is in
     let clean_now : HasCleanDisk (state g.S.Store now.conn.now) = search rules in
-    all_visits g.S.Store c.args.form g.V.RowVisitor.next c.args.table selection c.args.connection.now c.rows.rows.conn.now now.conn.now _ _ c.rows.invariant.visited _ (c.in_default.ensures.gives c.args.table selection c.args.connection.now was.0 was.1) none clean_now d has chooses sure
+    all_visits g.S.Store c.args.form g.V.RowVisitor.next c.args.table selection c.args.connection.now c.rows.rows.conn.now now.conn.now _ _ c.rows.invariant.visited _ (c.in_default.ensures.gives (OfTable c.args.table selection) c.args.connection.now was.0 was.1) none clean_now d has chooses sure
 
 pub returns-in_default-get-clause-same : goal.returns-in_default-get-clause-same
 returns-in_default-get-clause-same g c =
@@ -57,7 +58,7 @@ returns-in_default-get-clause-same g c =
     let was = c.rows.invariant.visited in
     let now = c.to_next_row.new.rows in
     let none : row_if now.has_row now.conn.now ≡ None = sym c.get.ensures ∙ ap option_copied c.in_default-get.is in
-    let all = rw none at (c.in_default.ensures.gives c.args.table selection c.args.connection.now was.0 was.1) in
+    let all = rw none at (c.in_default.ensures.gives (OfTable c.args.table selection) c.args.connection.now was.0 was.1) in
     let left : IsAfterQuery g.S.Store c.args.connection.now now.conn.now = all.left in
     search rules
 
@@ -67,7 +68,7 @@ returns-in_default-get-clause-clean g c =
     let was = c.rows.invariant.visited in
     let now = c.to_next_row.new.rows in
     let none : row_if now.has_row now.conn.now ≡ None = sym c.get.ensures ∙ ap option_copied c.in_default-get.is in
-    let all = rw none at (c.in_default.ensures.gives c.args.table selection c.args.connection.now was.0 was.1) in
+    let all = rw none at (c.in_default.ensures.gives (OfTable c.args.table selection) c.args.connection.now was.0 was.1) in
     let left : IsAfterQuery g.S.Store c.args.connection.now now.conn.now = all.left in
     search rules
 
@@ -85,7 +86,7 @@ returns-in-Err-visit_row-clause-same g c =
     let was = c.rows.invariant.visited in
     let now = c.to_next_row.new.rows in
     let some : row_if now.has_row now.conn.now ≡ Some c.in-Some.row.now = sym c.get.ensures ∙ ap option_copied c.in-Some.is in
-    let on = rw some at (c.in_default.ensures.gives c.args.table selection c.args.connection.now was.0 was.1) in
+    let on = rw some at (c.in_default.ensures.gives (OfTable c.args.table selection) c.args.connection.now was.0 was.1) in
     let left : IsAfterQuery g.S.Store c.args.connection.now now.conn.now = on.left in
     search rules
 
@@ -95,7 +96,7 @@ returns-in-Err-visit_row-clause-clean g c =
     let was = c.rows.invariant.visited in
     let now = c.to_next_row.new.rows in
     let some : row_if now.has_row now.conn.now ≡ Some c.in-Some.row.now = sym c.get.ensures ∙ ap option_copied c.in-Some.is in
-    let on = rw some at (c.in_default.ensures.gives c.args.table selection c.args.connection.now was.0 was.1) in
+    let on = rw some at (c.in_default.ensures.gives (OfTable c.args.table selection) c.args.connection.now was.0 was.1) in
     let left : IsAfterQuery g.S.Store c.args.connection.now now.conn.now = on.left in
     search rules
 
@@ -107,7 +108,7 @@ rows-preserved g c =
     let was = c.rows.invariant.visited in
     let now = c.to_next_row.new.rows in
     let some : row_if now.has_row now.conn.now ≡ Some c.in-Some.row.now = sym c.get.ensures ∙ ap option_copied c.in-Some.is in
-    let gives = c.in_default.ensures.gives c.args.table selection c.args.connection.now was.0 was.1 in
+    let gives = c.in_default.ensures.gives (OfTable c.args.table selection) c.args.connection.now was.0 was.1 in
     record {
       same_reference = search rules;
       mode = search rules;
@@ -140,10 +141,10 @@ returns-in-Err-to_next_row-clause-why g c usable d has dated =
     let was = c.rows.invariant.visited in
     let sure : HasCleanDisk (state g.S.Store now) = search rules in
     let on : IsTrue (state g.S.Store now).is_open = search rules in
-    let left : IsAfterQuery g.S.Store old now = c.in-Err-to_next_row.ensures.left c.args.table selection old was.0 was.1 in
+    let left : IsAfterQuery g.S.Store old now = c.in-Err-to_next_row.ensures.left (OfTable c.args.table selection) old was.0 was.1 in
     let refusal = c.refusal_of-in-Err-to_next_row.result in
     let failed : IsFailure g.S.Store old now refusal =
-    failed_by g.S.Store old now c.in-Err-to_next_row.error refusal c.refusal_of-in-Err-to_next_row.ensures.memory (c.in-Err-to_next_row.ensures.why c.args.table selection old was.0 was.1 sure has.rows.schema) ((left.keeps sure).was_open on) in
+    failed_by g.S.Store old now c.in-Err-to_next_row.error refusal c.refusal_of-in-Err-to_next_row.ensures.memory (c.in-Err-to_next_row.ensures.why (OfTable c.args.table selection) old was.0 was.1 sure has.rows.schema) ((left.keeps sure).was_open on) in
     inr (search rules)
 
 pub returns-in-Err-visit_row-clause-why : goal.returns-in-Err-visit_row-clause-why
@@ -153,7 +154,7 @@ returns-in-Err-visit_row-clause-why g c usable d has dated =
     let now = c.to_next_row.new.rows in
     let sure : HasCleanDisk (state g.S.Store now.conn.now) = search rules in
     let some : row_if now.has_row now.conn.now ≡ Some c.in-Some.row.now = sym c.get.ensures ∙ ap option_copied c.in-Some.is in
-    let gives = c.in_default.ensures.gives c.args.table selection c.args.connection.now was.0 was.1 in
+    let gives = c.in_default.ensures.gives (OfTable c.args.table selection) c.args.connection.now was.0 was.1 in
     let readable = last_readable g.S.Store c.args.form g.V.RowVisitor.next c.args.table selection c.args.connection.now c.rows.rows.conn.now now.conn.now _ _ was c.in-Some.row.now _ gives some sure d has dated in
     elim (c.in-Err-visit_row.ensures.why readable.0 readable.2 readable.3 readable.1) [ inl own ↦ inl own | inr memory ↦ inr (inl memory) ]
 
@@ -162,7 +163,7 @@ returns-in-Err-visit_row-clause-why g c usable d has dated =
 pub returns-in-Err-to_next_row-clause-faults : goal.returns-in-Err-to_next_row-clause-faults
 returns-in-Err-to_next_row-clause-faults g c =
     let was = c.rows.invariant.visited in
-    let left : IsAfterQuery g.S.Store c.args.connection.now c.to_next_row.new.rows.conn.now = c.in-Err-to_next_row.ensures.left c.args.table c.args.selection c.args.connection.now was.0 was.1 in
+    let left : IsAfterQuery g.S.Store c.args.connection.now c.to_next_row.new.rows.conn.now = c.in-Err-to_next_row.ensures.left (OfTable c.args.table c.args.selection) c.args.connection.now was.0 was.1 in
     search rules
 
 pub returns-in_default-get-clause-faults : goal.returns-in_default-get-clause-faults
@@ -170,7 +171,7 @@ returns-in_default-get-clause-faults g c =
     let was = c.rows.invariant.visited in
     let now = c.to_next_row.new.rows in
     let none : row_if now.has_row now.conn.now ≡ None = sym c.get.ensures ∙ ap option_copied c.in_default-get.is in
-    let all = rw none at (c.in_default.ensures.gives c.args.table c.args.selection c.args.connection.now was.0 was.1) in
+    let all = rw none at (c.in_default.ensures.gives (OfTable c.args.table c.args.selection) c.args.connection.now was.0 was.1) in
     let left : IsAfterQuery g.S.Store c.args.connection.now now.conn.now = all.left in
     search rules
 
@@ -179,6 +180,6 @@ returns-in-Err-visit_row-clause-faults g c =
     let was = c.rows.invariant.visited in
     let now = c.to_next_row.new.rows in
     let some : row_if now.has_row now.conn.now ≡ Some c.in-Some.row.now = sym c.get.ensures ∙ ap option_copied c.in-Some.is in
-    let on = rw some at (c.in_default.ensures.gives c.args.table c.args.selection c.args.connection.now was.0 was.1) in
+    let on = rw some at (c.in_default.ensures.gives (OfTable c.args.table c.args.selection) c.args.connection.now was.0 was.1) in
     let left : IsAfterQuery g.S.Store c.args.connection.now now.conn.now = on.left in
     search rules
