@@ -255,12 +255,13 @@ class Generator:
         columns of earlier tables; beside it the given one."""
         place = self.chance.randrange(1, len(tables))
         known, table = tables[place]
+        earlier = [self.choice(tables[:place])] if self.at(0.5) else tables[:place]
         key = self.looked_up(table)
         parts = []
         for column in key[:self.chance.randint(1, len(key))]:
             kind = table.columns[column].kind
-            alike = [(other, name) for other, earlier in tables[:place]
-                     for name in earlier.values if earlier.columns[name].kind == kind]
+            alike = [(other, name) for other, before in earlier
+                     for name in before.values if before.columns[name].kind == kind]
             if alike:
                 left, right = self.shuffled([self.name(known, column, tables),
                                              self.name(*self.choice(alike), tables)])

@@ -37,6 +37,9 @@ pub mod StateFacts
 pub mod Partly
 pub mod Touched
 pub mod Covered
+pub mod EntryKeys
+pub mod KeysInOrder
+pub mod RowsWithin
 mod KeyExamples
 mod KeyAfterExamples
 mod LawfulExamples

@@ -80,12 +80,14 @@ partly_kept first second xs i w inside partly new = λ k d below.
       ],
     )
 
--- a slice of all indexes, written back to its vector
-pub written_back : (n : ℕ) (items given new : List PeriodIndex) → given ≡ items → length given ≡ n → map positions_by new ≡ map positions_by given → take n (new ++ drop (length new) items) ≡ new
-written_back n items given new is size same =
-    let lengths : length new ≡ length given = sym (length-map new positions_by) ∙ ap length same ∙ length-map given positions_by in
+-- a slice of all elements, written back to its vector
+pub put_back : {X : Type 0} (n : ℕ) (items given new : List X) → given ≡ items → length given ≡ n → length new ≡ length given → take n (new ++ drop (length new) items) ≡ new
+put_back {X} n items given new is size same =
     let of_items : length given ≡ length items = ap length is in
-    ap (λ (rest : List PeriodIndex). take n (new ++ rest)) (none_left items (length new) (omega arith)) ∙ ap (take n) (append-nil new) ∙ take_all n new (omega arith)
+    ap (λ (rest : List X). take n (new ++ rest)) (none_left items (length new) (omega arith)) ∙ ap (take n) (append-nil new) ∙ take_all n new (omega arith)
+
+pub written_back : (n : ℕ) (items given new : List PeriodIndex) → given ≡ items → length given ≡ n → map positions_by new ≡ map positions_by given → take n (new ++ drop (length new) items) ≡ new
+written_back n items given new is size same = put_back n items given new is size (sym (length-map new positions_by) ∙ ap length same ∙ length-map given positions_by)
 
 -- rows that begin are the rows that were added
 pub begun_rows : (moment : ℤ) (rows : List PeriodRow) → map row_of (map (begun moment) rows) ≡ rows

@@ -173,23 +173,23 @@ and_not t a b same not = not ∙ sym (ap (λ (u : Bool). u && b) (sym same ∙ n
 pub next_of_range : (test : Option Value → Bool) (range : KeyRange) (key : List Value) (count : ℕ) → count ≡ vec_len range.leading → test (slice_get key count) ≡ test (slice_get key (length range.leading.items))
 next_of_range test range key count is = (let ok = range.leading.ok.0 in ap (λ (n : ℕ). test (slice_get key n)) (omega (arith, is, ok)))
 
--- ---- groups in the order of their keys
+-- ---- entries in the order of their keys
 
-module _ (range : KeyRange) where
+module _ {V : Type 0} (range : KeyRange) where
   -- the group's key is in the range
-  abbrev pub is_in : List Value × KeyRows → Bool
+  abbrev pub is_in : List Value × V → Bool
   is_in group = is_in_range range group.0
 
   -- a group whose key is not before the first values
-  abbrev pub is_from : List Value × KeyRows → Bool
+  abbrev pub is_from : List Value × V → Bool
   is_from group = range_contains values_cmp (bound.Included (first_values range)) bound.Unbounded group.0
 
   -- the first of the groups, if there is one, is neither in the range nor passed over
-  abbrev pub StopsAt : Entries → Type 0
+  abbrev pub StopsAt : List (List Value × V) → Type 0
   StopsAt [] = ⊤
   StopsAt (group ∷ groups) = (is_in group ≡ false) × (is_passed_over range group.0 ≡ false)
 
-  parts : (group : List Value × KeyRows) → is_in group ≡ true
+  parts : (group : List Value × V) → is_in group ≡ true
       → Leads range.leading.items group.0 × (is_above range.lower (slice_get group.0 (length range.leading.items)) ≡ true) × (is_below range.upper (slice_get group.0 (length range.leading.items)) ≡ true)
   parts group is =
       let next = slice_get group.0 (length range.leading.items) in
@@ -197,12 +197,12 @@ module _ (range : KeyRange) where
       let limits = and_parts (is_above range.lower next) (is_below range.upper next) both.1 in
       ((values_eq range.leading.items (take (length range.leading.items) group.0)).0 both.0, limits.0, limits.1)
 
-  in_from : (group : List Value × KeyRows) → is_in group ≡ true → is_from group ≡ true
+  in_from : (group : List Value × V) → is_in group ≡ true → is_from group ≡ true
   in_from group is = (let its = parts group is in
       ap (λ (b : Bool). b && true) (not_before range.leading.items range.lower group.0 its.0 its.1))
 
   -- after a group that is not before the first values, and neither in the range nor passed over, none is in the range
-  none_behind : (first group : List Value × KeyRows) → is_from first ≡ true → is_in first ≡ false → is_passed_over range first.0 ≡ false → values_cmp first.0 group.0 ≡ Less → is_in group ≡ true → ⊥
+  none_behind : (first group : List Value × V) → is_from first ≡ true → is_in first ≡ false → is_passed_over range first.0 ≡ false → values_cmp first.0 group.0 ≡ Less → is_in group ≡ true → ⊥
   none_behind first group from out over less is =
       let its = parts group is in
       let n = length range.leading.items in
@@ -214,7 +214,7 @@ module _ (range : KeyRange) where
         | inr passed ↦ false≢true (sym over ∙ ap₂ (λ (a b : Bool). a && b) begins passed)
       ]
 
-  none_after : (first : List Value × KeyRows) (groups : Entries) → is_from first ≡ true → StopsAt (first ∷ []) → AllByRecursion (λ (key : List Value). values_cmp first.0 key ≡ Less) (keys_of groups) → filter is_in groups ≡ []
+  none_after : (first : List Value × V) (groups : List (List Value × V)) → is_from first ≡ true → StopsAt (first ∷ []) → AllByRecursion (λ (key : List Value). values_cmp first.0 key ≡ Less) (keys_of groups) → filter is_in groups ≡ []
   none_after first [] from stops behind = refl
   none_after first (group ∷ groups) from stops behind = by_test (is_in group) refl (none_after first groups from stops behind.1)
     where
@@ -222,7 +222,7 @@ module _ (range : KeyRange) where
       by_test true is rest = absurd (none_behind first group from stops.0 stops.1 behind.0 is)
       by_test false is rest = ap (λ (t : Bool). cond t (group ∷ filter is_in groups) (filter is_in groups)) is ∙ rest
 
-  still_after : (k : List Value) (groups : Entries) → AllByRecursion (λ (key : List Value). values_cmp k key ≡ Less) (keys_of groups) → AllByRecursion (λ (key : List Value). values_cmp k key ≡ Less) (keys_of (filter is_from groups))
+  still_after : (k : List Value) (groups : List (List Value × V)) → AllByRecursion (λ (key : List Value). values_cmp k key ≡ Less) (keys_of groups) → AllByRecursion (λ (key : List Value). values_cmp k key ≡ Less) (keys_of (filter is_from groups))
   still_after k [] all = all
   still_after k (group ∷ groups) all = by_test (is_from group) (still_after k groups all.1)
     where
@@ -231,72 +231,73 @@ module _ (range : KeyRange) where
       by_test false rest = rest
 
   -- in an ordered list from the first values on, the groups after a group have later keys
-  ordered_behind : (groups seen : Entries) (group : List Value × KeyRows) (rest : Entries) → IsStrictlySortedBy values_cmp (keys_of groups) → filter is_from groups ≡ seen ++ group ∷ rest → AllByRecursion (λ (key : List Value). values_cmp group.0 key ≡ Less) (keys_of rest)
+  ordered_behind : (groups seen : List (List Value × V)) (group : List Value × V) (rest : List (List Value × V)) → IsStrictlySortedBy values_cmp (keys_of groups) → filter is_from groups ≡ seen ++ group ∷ rest → AllByRecursion (λ (key : List Value). values_cmp group.0 key ≡ Less) (keys_of rest)
   unfolding IsStrictlySortedBy
   ordered_behind [] [] group rest ordered split = absurd cc
   ordered_behind [] (s ∷ seen) group rest ordered split = absurd cc
   ordered_behind (first ∷ groups) seen group rest ordered split = by_test (λ seen split. ordered_behind groups seen group rest ordered.1 split) (is_from first) seen split
     where
-      by_test : ((seen : Entries) → filter is_from groups ≡ seen ++ group ∷ rest → AllByRecursion (λ (key : List Value). values_cmp group.0 key ≡ Less) (keys_of rest)) → (t : Bool) (seen : Entries) → cond t (first ∷ filter is_from groups) (filter is_from groups) ≡ seen ++ group ∷ rest → AllByRecursion (λ (key : List Value). values_cmp group.0 key ≡ Less) (keys_of rest)
+      by_test : ((seen : List (List Value × V)) → filter is_from groups ≡ seen ++ group ∷ rest → AllByRecursion (λ (key : List Value). values_cmp group.0 key ≡ Less) (keys_of rest)) → (t : Bool) (seen : List (List Value × V)) → cond t (first ∷ filter is_from groups) (filter is_from groups) ≡ seen ++ group ∷ rest → AllByRecursion (λ (key : List Value). values_cmp group.0 key ≡ Less) (keys_of rest)
       by_test later true [] split =
           let same : first ≡ group = cc in
           let more : filter is_from groups ≡ rest = cc in
-          subst (λ (g : List Value × KeyRows). AllByRecursion (λ (key : List Value). values_cmp g.0 key ≡ Less) (keys_of rest)) same
-          (subst (λ (es : Entries). AllByRecursion (λ (key : List Value). values_cmp first.0 key ≡ Less) (keys_of es)) more (still_after first.0 groups ordered.0))
+          subst (λ (g : List Value × V). AllByRecursion (λ (key : List Value). values_cmp g.0 key ≡ Less) (keys_of rest)) same
+          (subst (λ (es : List (List Value × V)). AllByRecursion (λ (key : List Value). values_cmp first.0 key ≡ Less) (keys_of es)) more (still_after first.0 groups ordered.0))
       by_test later true (s ∷ seen) split = (let more : filter is_from groups ≡ seen ++ group ∷ rest = cc in later seen more)
       by_test later false seen split = later seen split
 
-  through : (groups : Entries) → filter is_in (filter is_from groups) ≡ filter is_in groups
+  through : (groups : List (List Value × V)) → filter is_in (filter is_from groups) ≡ filter is_in groups
   through [] = refl
   through (group ∷ groups) = by_test (is_from group) (is_in group) refl refl (through groups)
     where
       by_test : (f t : Bool) → is_from group ≡ f → is_in group ≡ t → filter is_in (filter is_from groups) ≡ filter is_in groups → filter is_in (cond f (group ∷ filter is_from groups) (filter is_from groups)) ≡ filter is_in (group ∷ groups)
-      by_test true t from is rest = ap (λ (es : Entries). cond (is_in group) (group ∷ es) es) rest
+      by_test true t from is rest = ap (λ (es : List (List Value × V)). cond (is_in group) (group ∷ es) es) rest
       by_test false true from is rest = absurd (false≢true (sym from ∙ in_from group is))
       by_test false false from is rest = rest ∙ sym (ap (λ (t : Bool). cond t (group ∷ filter is_in groups) (filter is_in groups)) is)
 
   -- the groups in the range are among the first that are not before the first values
-  first_in : (groups seen rest : Entries) → IsStrictlySortedBy values_cmp (keys_of groups) → filter is_from groups ≡ seen ++ rest → StopsAt rest → filter is_in groups ≡ filter is_in seen
+  pub first_in : (groups seen rest : List (List Value × V)) → IsStrictlySortedBy values_cmp (keys_of groups) → filter is_from groups ≡ seen ++ rest → StopsAt rest → filter is_in groups ≡ filter is_in seen
   first_in groups seen rest ordered split stops =
-      sym (through groups) ∙ ap (filter is_in) split ∙ filter-append is_in seen rest ∙ ap (λ (es : Entries). filter is_in seen ++ es) (none rest split stops) ∙ append-nil (filter is_in seen)
+      sym (through groups) ∙ ap (filter is_in) split ∙ filter-append is_in seen rest ∙ ap (λ (es : List (List Value × V)). filter is_in seen ++ es) (none rest split stops) ∙ append-nil (filter is_in seen)
     where
-      none : (rest : Entries) → filter is_from groups ≡ seen ++ rest → StopsAt rest → filter is_in rest ≡ []
+      none : (rest : List (List Value × V)) → filter is_from groups ≡ seen ++ rest → StopsAt rest → filter is_in rest ≡ []
       none [] split stops = refl
       none (group ∷ rest) split stops =
-          let from : is_from group ≡ true = (from_filter is_from groups group (subst (λ (es : Entries). Contains es group) (sym split) (Contains-append_right seen (group ∷ rest) group (Contains-here group rest)))).1 in
+          let from : is_from group ≡ true = (from_filter is_from groups group (subst (λ (es : List (List Value × V)). Contains es group) (sym split) (Contains-append_right seen (group ∷ rest) group (Contains-here group rest)))).1 in
           ap (λ (t : Bool). cond t (group ∷ filter is_in rest) (filter is_in rest)) stops.0 ∙ none_after group rest from stops (ordered_behind groups seen group rest ordered split)
 
+module _ (range : KeyRange) where
   module _ (positions : List ℕ) where
     -- the rows of the groups whose keys are in the range
-    ranged_rows : (groups : Entries) → AllByRecursion (HaveKey positions) groups → filter (has_key_in positions range) (rows_of_groups groups) ≡ rows_of_groups (filter is_in groups)
+    ranged_rows : (groups : Entries) → AllByRecursion (HaveKey positions) groups → filter (has_key_in positions range) (rows_of_groups groups) ≡ rows_of_groups (filter (is_in range) groups)
     ranged_rows [] keyed = refl
     ranged_rows (group ∷ groups) keyed =
         filter-append (has_key_in positions range) (rows_in group.1) (rows_of_groups groups)
         ∙ ap (λ (xs : List VersionRow). xs ++ filter (has_key_in positions range) (rows_of_groups groups))
-        (each_alike (has_key_in positions range) (is_in group) (rows_in group.1) (λ v c. ap (is_in_range range) (sym (keyed.0 v c))))
-        ∙ by_test (is_in group) (ranged_rows groups keyed.1)
+        (each_alike (has_key_in positions range) (is_in range group) (rows_in group.1) (λ v c. ap (is_in_range range) (sym (keyed.0 v c))))
+        ∙ by_test (is_in range group) (ranged_rows groups keyed.1)
       where
-        by_test : (t : Bool) → filter (has_key_in positions range) (rows_of_groups groups) ≡ rows_of_groups (filter is_in groups)
-            → cond t (rows_in group.1) [] ++ filter (has_key_in positions range) (rows_of_groups groups) ≡ rows_of_groups (cond t (group ∷ filter is_in groups) (filter is_in groups))
+        by_test : (t : Bool) → filter (has_key_in positions range) (rows_of_groups groups) ≡ rows_of_groups (filter (is_in range) groups)
+            → cond t (rows_in group.1) [] ++ filter (has_key_in positions range) (rows_of_groups groups) ≡ rows_of_groups (cond t (group ∷ filter (is_in range) groups) (filter (is_in range) groups))
         by_test true rest = ap (λ (xs : List VersionRow). rows_in group.1 ++ xs) rest
         by_test false rest = rest
 
     pub found_in : (groups : BTreeMap (List Value) KeyRows) (seen rest : Entries) → AreGrouped positions groups → entries_between values_cmp (bound.Included (first_values range)) bound.Unbounded groups.entries ≡ seen ++ rest
-        → StopsAt rest → rows_of_groups (filter is_in seen) ≡ filter (has_key_in positions range) (rows_of_groups groups.entries)
+        → StopsAt range rest → rows_of_groups (filter (is_in range) seen) ≡ filter (has_key_in positions range) (rows_of_groups groups.entries)
     found_in groups seen rest grouped split stops =
-        ap rows_of_groups (sym (first_in groups.entries seen rest grouped.ordered split stops)) ∙ sym (ranged_rows groups.entries grouped.keyed)
+        ap rows_of_groups (sym (first_in range groups.entries seen rest grouped.ordered split stops)) ∙ sym (ranged_rows groups.entries grouped.keyed)
 
   -- ---- groups that are found one after another
 
-  pub in_more : (seen : Entries) (group : List Value × KeyRows) → is_in group ≡ true → values_of (filter is_in (seen ++ group ∷ [])) ≡ values_of (filter is_in seen) ++ group.1 ∷ []
-  in_more seen group is = ap values_of (filter-append is_in seen (group ∷ []) ∙ ap (λ (t : Bool). filter is_in seen ++ cond t (group ∷ []) []) is) ∙ values_more (filter is_in seen)
+  pub in_more : (seen : Entries) (group : List Value × KeyRows) → is_in range group ≡ true → values_of (filter (is_in range) (seen ++ group ∷ [])) ≡ values_of (filter (is_in range) seen) ++ group.1 ∷ []
+  in_more seen group is = ap values_of (filter-append (is_in range) seen (group ∷ []) ∙ ap (λ (t : Bool). filter (is_in range) seen ++ cond t (group ∷ []) []) is) ∙ values_more (filter (is_in range) seen)
     where
       values_more : (done : Entries) → values_of (done ++ group ∷ []) ≡ values_of done ++ group.1 ∷ []
       values_more [] = refl
       values_more (d ∷ done) = ap (λ (xs : List KeyRows). d.1 ∷ xs) (values_more done)
 
-  pub out_more : (seen : Entries) (group : List Value × KeyRows) → is_in group ≡ false → values_of (filter is_in (seen ++ group ∷ [])) ≡ values_of (filter is_in seen)
-  out_more seen group is = ap values_of (filter-append is_in seen (group ∷ []) ∙ ap (λ (t : Bool). filter is_in seen ++ cond t (group ∷ []) []) is ∙ append-nil (filter is_in seen))
+  pub out_more : (seen : Entries) (group : List Value × KeyRows) → is_in range group ≡ false → values_of (filter (is_in range) (seen ++ group ∷ [])) ≡ values_of (filter (is_in range) seen)
+  out_more seen group is = ap values_of (filter-append (is_in range) seen (group ∷ []) ∙ ap (λ (t : Bool). filter (is_in range) seen ++ cond t (group ∷ []) []) is ∙ append-nil (filter (is_in range) seen))
 
 -- ---- rows of which something is known of the values at the positions of the key
 
@@ -396,7 +397,7 @@ limit_held With Without None None with without = tt
 
 -- ---- ranges of one key
 
-at_most : (positions : List ℕ) (values : List Value) → length (values_at positions values) ≤ length positions
+pub at_most : (positions : List ℕ) (values : List Value) → length (values_at positions values) ≤ length positions
 at_most [] values = omega arith
 at_most (p ∷ positions) values = by_value (slice_get values p) (at_most positions values)
   where
@@ -416,12 +417,12 @@ whole_key range positions values whole is =
 
 -- ---- the range of all keys
 
-none_above : (lower : Limit) → is_above lower None ≡ true → lower ≡ Unbounded
+pub none_above : (lower : Limit) → is_above lower None ≡ true → lower ≡ Unbounded
 none_above (Included l) h = absurd (false≢true h)
 none_above (Excluded l) h = absurd (false≢true h)
 none_above Unbounded h = refl
 
-none_below : (upper : Limit) → is_below upper None ≡ true → upper ≡ Unbounded
+pub none_below : (upper : Limit) → is_below upper None ≡ true → upper ≡ Unbounded
 none_below (Included l) h = absurd (false≢true h)
 none_below (Excluded l) h = absurd (false≢true h)
 none_below Unbounded h = refl

@@ -20,6 +20,7 @@ pub mod FixedKeys
 pub mod Equations
 pub mod Planned
 pub mod PeriodIndexes
+pub mod Secondary
 pub mod TableRows
 pub mod Current
 pub mod Faults

@@ -3,6 +3,7 @@
 ghost use Rattle.std.specs.Prelude.{◌≡◌, ◌≤◌, ◌++◌, ◌∷◌, [], ℕ, IfOk, IsPermutation, List, OnErr};
 ghost use Rattle.std.specs.Prelude.{MatchOption, OnOk, filter, length, map, option_copied, take};
 ghost use Rattle.std.specs.BTreeMap.{get_by};
+ghost use Rattle.std.specs.List.Sorted.{IsStrictlySortedBy};
 ghost use Rattle.period_core.specs.Order.{values_cmp};
 ghost use Rattle.period_core.specs.declared.version.VersionRow.{VersionRow as Version};
 ghost use Rattle.period_keys.specs.Keys.{key_values, values_at};
@@ -10,6 +11,7 @@ ghost use Rattle.period_keys.specs.Index.{SharesDayOfKept, periods_at};
 ghost use Rattle.period_keys.specs.Keys.{IsLeastOf};
 ghost use Rattle.period_keys.specs.Rows.{AreGrouped, HasRows, rows_of_groups};
 ghost use Rattle.period_keys.specs.Rows.{rows_of_key, rows_of_lists, rows_within};
+ghost use Rattle.period_keys.specs.Secondary.{is_of_some_key};
 ghost use Rattle.period_keys.specs.Versions.{begun, has_key_in, period_of, recorded};
 ghost use Rattle.period_keys.specs.Versions.{version_key};
 
@@ -105,6 +107,26 @@ impl CurrentRows {
             ≡ rows_within self.now range.now) }
     {
         groups_in(alloc, &self.groups, range)
+    }
+
+    /// The rows of each of these keys, one key after another.
+    pub(crate) fn groups_of_keys(
+        &self,
+        alloc: Global,
+        keys: &[Key],
+    ) -> Result<Vec<&KeyRows>, Memory>
+        requires { IsStrictlySortedBy values_cmp keys.now }
+        ensures { IfOk result (λ groups. rows_of_lists (map (λ group. group.now) groups.items)
+            ≡ filter (is_of_some_key self.now.positions keys.now) self.now.rows) }
+    {
+        let all = &self.groups;
+        let mut groups = Vec::new(alloc);
+        for key in keys {
+            if let Some(group) = group_at(all, key) {
+                groups.push(group)?;
+            }
+        }
+        Ok(groups)
     }
 
     /// Adds a row. An error changes nothing.

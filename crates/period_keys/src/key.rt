@@ -68,6 +68,17 @@ impl Key {
         })
     }
 
+    /// The values after the first `count`, as a key.
+    pub(crate) fn after(&self, alloc: Global, count: usize) -> Result<Key, Memory>
+        ensures { IfOk result (λ key. key ≡ drop count self.now) }
+    {
+        match self.leading {
+            Some(_) if count == 0 => self.copy(alloc),
+            Some(_) => key_from(alloc, self.rest.as_slice(), count - 1),
+            None => key_from(alloc, self.rest.as_slice(), count),
+        }
+    }
+
     /// Whether the key begins with these values.
     pub(crate) fn begins_with(&self, leading: &[Value]) -> bool
         ensures { IsTrue result ↔ (leading.now ≡ take (length leading.now) self.now) }
@@ -124,6 +135,17 @@ impl Key {
             (None, None) => self.rest.cmp(&other.rest),
         }
     }
+}
+
+// The key of the values after the first `count`.
+fn key_from(alloc: Global, values: &[Value], count: usize) -> Result<Key, Memory>
+    ensures { IfOk result (λ key. key ≡ drop count values.now) }
+{
+    let mut own = Vec::new(alloc);
+    for i in count..values.len() {
+        own.push(values[i].copy(alloc)?)?;
+    }
+    Ok(Key::from_vec(own))
 }
 
 // Whether there is a value at a place that compares so with this one.

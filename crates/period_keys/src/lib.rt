@@ -9,8 +9,11 @@
 //! - References look up periods by key (`periods_by_key`, `periods_of_key`): among the rows, if
 //!   their columns are those of the key, or else in an index by their columns (`period_indexes`,
 //!   `keyed_periods`, `ordered_periods`). `TableIndex` has both, and follows a change all or none.
-//! - `plans` makes a change's plan of the rows of the keys in the range that its condition leaves
-//!   (`fixed_keys`, `key_range`), and of many rows of a key of those near its portion.
+//! - Conditions leave a range of a row's values (`fixed_keys`, `key_range`) at the positions of the
+//!   key or of a reference's columns (`row_range`). Rows are found by a reference's columns through
+//!   a `secondary_index` of their keys, which `TableIndex` has from the first time it is asked for.
+//! - `plans` makes a change's plan of the rows that its condition leaves, and of many rows of a key
+//!   of those near its portion.
 //! - `key_after` finds the range of keys that a join leaves, if the values before it are known.
 //! - A plan is judged by the rows that it touches (`faults`, by `clashes` and `references`), and by
 //!   all references of the catalog (`reference_faults`).
@@ -49,6 +52,8 @@ mod positions;
 mod reference_faults;
 mod references;
 mod row_key;
+mod row_range;
+mod secondary_index;
 mod shared_days;
 mod sweep;
 mod table_index;
@@ -68,9 +73,10 @@ pub use lawful_laws::{
     states_stay_lawful,
 };
 pub use lawful_states::is_lawful;
-pub use plans::plan_change;
+pub use plans::{plan_change, prepare_plan};
 pub use positions::positions_of;
 pub use reference_faults::reference_fault;
+pub use row_range::{RowConditions, RowRange};
 pub use table_index::TableIndex;
 pub use table_list::{add_table, tables_of};
 pub use tables::{key_clash, uncovered};

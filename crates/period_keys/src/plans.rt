@@ -16,49 +16,58 @@ ghost use Rattle.period_keys.specs.Planned.{IsPlanOf};
 ghost use Rattle.period_keys.specs.Rows.{rows_of_lists};
 ghost use Rattle.period_keys.specs.Versions.{has_key_in};
 
-use crate::current_rows::CurrentRows;
-use crate::fixed_keys::range_of_key;
-use crate::key_range::KeyRange;
 use crate::key_rows::KeyRows;
+use crate::row_range::RowRange;
+use crate::table_index::TableIndex;
 use catalog_core::{Action, Cond, Plan};
 use period_core::{Items, Memory, Period, Refusal, VersionRow};
 use portion_dml::{plan_given, plan_portion};
 use std::alloc::Global;
 
-/// The plan of a change over its table's current rows. The rows of the keys in the range that its
-/// condition leaves are looked at alone (`range_of_key`). The values of the rows that
-/// an INSERT gives become the plan's values. It is refused if such a row has a period without a
-/// day, and else only out of memory.
-pub fn plan_change(alloc: Global, current: &CurrentRows, action: Action) -> Result<Plan, Refusal>
-    ensures plan { IfOk result (λ plan. IsPlanOf action current.now.rows plan) }
+/// Makes the secondary index by which `plan_change` finds the rows that an action's condition
+/// leaves, if there is to be one, and it is not there yet.
+pub fn prepare_plan(alloc: Global, table: &mut TableIndex, action: &Action) -> Result<(), Memory>
+    ensures { table.new ≡ table.old }
+{
+    match condition_of(action) {
+        Some(condition) => table.prepare(alloc, condition),
+        None => Ok(()),
+    }
+}
+
+/// The plan of a change over its table's current rows. Those that its condition leaves are looked
+/// at alone (`TableIndex::rows_of`). The values of the rows that an INSERT gives become the plan's
+/// values. It is refused if such a row has a period without a day, and else only out of memory.
+pub fn plan_change(alloc: Global, table: &TableIndex, action: Action) -> Result<Plan, Refusal>
+    ensures plan { IfOk result (λ plan. IsPlanOf action table.now.rows plan) }
     ensures refused { IfErr result (λ refusal.
         ((refusal ≡ Refusal.EmptyPeriod) × IsTrue (has_empty_row action))
         ⊎ (refusal ≡ Refusal.Memory)) }
 {
     match action {
         Action::Insert(given) => plan_given(alloc, given),
-        action => Ok(plan_by_condition(alloc, current, &action)?),
+        action => Ok(plan_by_condition(alloc, table, &action)?),
     }
 }
 
-// The plan of an action that gives no rows, over the keys that its condition leaves.
-fn plan_by_condition(alloc: Global, current: &CurrentRows, action: &Action) -> Result<Plan, Memory>
+// The plan of an action that gives no rows, over the rows that its condition leaves.
+fn plan_by_condition(alloc: Global, table: &TableIndex, action: &Action) -> Result<Plan, Memory>
     requires { inserted_by action.now ≡ [] }
-    ensures { IfOk result (λ plan. IsPlanOf action.now current.now.rows plan) }
+    ensures { IfOk result (λ plan. IsPlanOf action.now table.now.rows plan) }
 {
-    let range = range_of_action(alloc, action, current.positions())?;
-    plan_over(alloc, current.groups_within(alloc, &range)?, action)
+    let rows = rows_of_action(alloc, table, action)?;
+    plan_over(alloc, table.groups_of(alloc, &rows)?, action)
 }
 
-// A range of keys that has the key of each row that an action touches.
-fn range_of_action(alloc: Global, action: &Action, positions: &[usize]) -> Result<KeyRange, Memory>
-    ensures { IfOk result (λ range. (version : Version)
+// The rows of the table that an action may touch.
+fn rows_of_action(alloc: Global, table: &TableIndex, action: &Action) -> Result<RowRange, Memory>
+    ensures { IfOk result (λ rows. (version : Version)
         → touches action.now (version_row version) ≡ true
-        → has_key_in positions.now range version ≡ true) }
+        → has_key_in rows.positions rows.range version ≡ true) }
 {
     match condition_of(action) {
-        Some(condition) => range_of_key(alloc, condition, positions),
-        None => Ok(KeyRange::all(alloc)),
+        Some(condition) => table.rows_of(alloc, condition),
+        None => Ok(RowRange::all(alloc)),
     }
 }
 

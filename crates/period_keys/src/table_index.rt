@@ -7,6 +7,8 @@ ghost use Rattle.history_model.specs.Versions.{row_of};
 ghost use Rattle.period_keys.specs.Index.{AreAtKeys};
 ghost use Rattle.period_keys.specs.Keys.{key_values};
 ghost use Rattle.period_keys.specs.LookUps.{periods_by};
+ghost use Rattle.period_keys.specs.Rows.{rows_of_lists};
+ghost use Rattle.period_keys.specs.Secondary.{AreRowsWithin, HasEntries};
 ghost use Rattle.period_keys.specs.TableRows.{AreTouchedKeys, HasMoreIndexes, HasTableRows};
 ghost use Rattle.period_keys.specs.Versions.{begun};
 
@@ -14,24 +16,32 @@ use crate::changes::keys_of;
 use crate::clashes::index_of_current;
 use crate::current_rows::CurrentRows;
 use crate::key::Key;
+use crate::key_range::KeyRange;
+use crate::key_rows::KeyRows;
 use crate::period_indexes::{PeriodIndex, add_to_each, keys_by_each, take_from_each};
 use crate::periods_by_key::PeriodsByKey;
+use crate::row_range::{RowConditions, RowRange};
+use crate::secondary_index::{SecondaryIndex, add_entries_to_each};
 use period_core::{Items, Memory, Moment, PeriodRow, VersionRow};
 use std::alloc::Global;
 use std::marker::Model;
 
 /// The current rows of one table by key, and their periods by the columns of each reference from
-/// the table and to it. The rows themselves have the periods by the columns of the key.
+/// the table and to it. The rows themselves have the periods by the columns of the key. Rows are
+/// found by the columns of a reference through a secondary index, which is made when one first
+/// asks for it (`prepare`): tables that are never asked so pay nothing.
 #[derive(Drop)]
 pub struct TableIndex {
     rows: CurrentRows,
     indexes: Vec<PeriodIndex>,
+    secondary: Vec<SecondaryIndex>,
 }
 
 impl Model for TableIndex {
     ghost use Rattle.std.specs.Prelude.{◌∷◌, map};
     ghost use Rattle.history_model.specs.Versions.{row_of};
     ghost use Rattle.period_keys.specs.PeriodIndexes.{EachIndexes, positions_by};
+    ghost use Rattle.period_keys.specs.Secondary.{HaveEntries};
     ghost use Rattle.period_keys.specs.TableRows.{TableRows};
 
     ghost Value = { TableRows };
@@ -42,7 +52,8 @@ impl Model for TableIndex {
       indexed = t.rows.positions ∷ map positions_by t.indexes.items;
     } };
 
-    ghost invariant = { λ t. EachIndexes (map row_of t.rows.rows) t.indexes.items };
+    ghost invariant = { λ t. EachIndexes (map row_of t.rows.rows) t.indexes.items
+        × HaveEntries t.rows.positions t.rows.rows t.secondary.items };
 }
 
 /// The keys of rows that a change touches, by the table's key and by each of its indexes.
@@ -62,6 +73,7 @@ impl TableIndex {
         TableIndex {
             rows,
             indexes: Vec::new(alloc),
+            secondary: Vec::new(alloc),
         }
     }
 
@@ -88,6 +100,78 @@ impl TableIndex {
             }
         }
         None
+    }
+
+    /// The rows that conditions leave, by the key, or if they leave all keys, by the columns of a
+    /// reference that they fix.
+    pub fn rows_of<C: RowConditions>(
+        &self,
+        alloc: Global,
+        conditions: &C,
+    ) -> Result<RowRange, Memory>
+        ensures { IfOk result (λ rows. C.IsRange conditions.now rows.positions rows.range) }
+    {
+        let range = conditions.range_at(alloc, self.rows.positions())?;
+        if range.is_all() {
+            for index in self.indexes.as_slice() {
+                let positions = index.positions.as_slice();
+                let other = conditions.range_at(alloc, positions)?;
+                if other.whole_key(positions).is_some() {
+                    return RowRange::at(alloc, positions, other);
+                }
+            }
+        }
+        RowRange::at(alloc, self.rows.positions(), range)
+    }
+
+    /// Makes the secondary index by which `groups_of` finds the rows that conditions leave, if
+    /// there is to be one, and it is not there yet.
+    pub fn prepare<C: RowConditions>(&mut self, alloc: Global, conditions: &C) -> Result<(), Memory>
+        ensures { self.new ≡ self.old }
+    {
+        if self.indexes.is_empty() {
+            return Ok(());
+        }
+        let rows = self.rows_of(alloc, conditions)?;
+        let positions = rows.positions.as_slice();
+        if self.rows.positions() == positions || self.secondary_at(positions).is_some() {
+            return Ok(());
+        }
+        let index = SecondaryIndex::of(alloc, rows.positions, &self.rows)?;
+        self.secondary.push(index)?;
+        Ok(())
+    }
+
+    // The secondary index by these positions, if it is there.
+    fn secondary_at(&self, positions: &[usize]) -> Option<&SecondaryIndex>
+        ensures { IfSome result (λ index. (index.now.positions ≡ positions.now)
+            × HasEntries self.now.positions self.now.rows index.now) }
+    {
+        for other in self.secondary.as_slice() {
+            if other.positions.as_slice() == positions {
+                return Some(other);
+            }
+        }
+        None
+    }
+
+    /// The rows of each key of which a row may be in the range, one key after another: by the key
+    /// or by a secondary index, or all, if there is none by these positions.
+    pub fn groups_of(&self, alloc: Global, rows: &RowRange) -> Result<Vec<&KeyRows>, Memory>
+        ensures { IfOk result (λ groups. AreRowsWithin rows.now self.now.rows
+            (rows_of_lists (map (λ group. group.now) groups.items))) }
+    {
+        let positions = rows.positions.as_slice();
+        if positions == self.rows.positions() {
+            return self.rows.groups_within(alloc, &rows.range);
+        }
+        if rows.range.whole_key(positions).is_some() {
+            if let Some(index) = self.secondary_at(positions) {
+                let keys = index.keys_within(alloc, &rows.range)?;
+                return self.rows.groups_of_keys(alloc, keys.as_slice());
+            }
+        }
+        self.rows.groups_within(alloc, &KeyRange::all(alloc))
     }
 
     /// Indexes the rows' periods by their values at these positions too. An error changes nothing.
@@ -156,6 +240,7 @@ impl TableIndex {
         ensures err { OnErr result (HasTableRows self.old.rows self.old self.new) }
     {
         let by_key = keys.by_key.as_slice();
+        add_entries_to_each(alloc, self.secondary.as_mut_slice(), rows)?;
         self.rows.add_all(alloc, moment, by_key, rows)?;
         let by_each = keys.by_each.as_slice();
         if let Err(refused) = add_to_each(alloc, self.indexes.as_mut_slice(), by_each, rows) {

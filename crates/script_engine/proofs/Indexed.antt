@@ -1,10 +1,11 @@
 -- The tables in memory follow a catalog: with more indexes, with one table written, and without the last.
-use Rattle.std.proofs.Common.{◌≡◌, ◌<◌, ◌≤◌, ◌-◌, ◌++◌, ◌∷◌, ◌∙◌, ℕ, zero, suc, List, [], Some, Result, Ok, Err, OnErr, OnOk, inl, inr, length, length-append, map, refl, set, sym, take, ap, ap₂, subst, arith}
+use Rattle.std.proofs.Common.{◌≡◌, ◌<◌, ◌≤◌, ◌-◌, ◌++◌, ◌∷◌, ◌∙◌, ℕ, zero, suc, List, [], None, Some, Result, Ok, Err, OnErr, OnOk, inl, inr, length, length-append, map, refl, set, sym, take, ap, ap₂, subst, arith}
 use Rattle.std.specs.List.{slice_get}
+use Rattle.std.specs.Option.{option_map}
 use Rattle.std.specs.List.Sorted.{IsPermutation}
 use Rattle.std.proofs.lemmas.List.Sorted.{IsPermutation-append_right, IsPermutation-trans}
 use Rattle.std.proofs.lemmas.List.{length-map, length-set, map-set}
-use Rattle.std.proofs.lemmas.Option.{slice_get_within}
+use Rattle.std.proofs.lemmas.Option.{slice_get-map, slice_get_within}
 use Rattle.period_core.specs.declared.version.VersionRow.{VersionRow}
 use Rattle.catalog_core.specs.create.Lawful.{IsLawful}
 use Rattle.catalog_core.specs.table.TableWords.{table_of}
@@ -33,6 +34,10 @@ rows_at (t ∷ tables) (suc place) table is = rows_at tables place table is
 pub rows_there : (tables : List TableRows) (number : ℕ) (table : TableRows) → table_of tables number ≡ Some table → table_of (map rows_by_key tables) number ≡ Some (rows_by_key table)
 rows_there tables zero table is = cc
 rows_there tables (suc place) table is = rows_at tables place table is
+
+pub none_there : (tables : List TableRows) (number : ℕ) → table_of tables number ≡ None → table_of (map rows_by_key tables) number ≡ None
+none_there tables zero is = refl
+none_there tables (suc place) is = slice_get-map rows_by_key tables place ∙ ap (option_map rows_by_key) is
 
 -- ---- one table written
 

@@ -1,12 +1,11 @@
 -- Needed rows of those that references see are enough: a query gives the same of them.
-use Rattle.std.proofs.Common.{◌≡◌, ◌↔◌, ◌&&◌, ◌==◌, ◌+◌, ◌++◌, ◌∷◌, ◌∙◌, ℕ, ℤ, Bool, true, List, [], append_assoc, append-nil, arith, eqb-true, length, length-append, map, refl, Some, sym, ap, subst, take, inl, inr}
-use Rattle.std.specs.Prelude.{◌-◌, ◌<◌, slice_get, slice_index_or}
+use Rattle.std.proofs.Common.{◌≡◌, ◌↔◌, ◌&&◌, ◌==◌, ◌+◌, ◌++◌, ◌∷◌, ◌∙◌, ℕ, ℤ, Bool, true, List, [], append_assoc, append-nil, arith, eqb-true, length, length-append, map, refl, Some, sym, ap, subst, inl, inr}
+use Rattle.std.specs.Prelude.{slice_get, slice_index_or}
 use Rattle.std.specs.List.{AllByRecursion, Contains, list_all}
 use Rattle.std.specs.List.Sorted.{IsPermutation}
 use Rattle.std.proofs.lemmas.Bool.{and_parts}
 use Rattle.std.proofs.lemmas.Bool.Decides.{nat_tests}
-use Rattle.std.proofs.lemmas.List.{take_all, take_more}
-use Rattle.std.proofs.lemmas.Option.{get_or_from_slice_get, slice_get_within}
+use Rattle.std.proofs.lemmas.Slice.Zip.{AllZip-left}
 use Rattle.std.proofs.lemmas.List.Sorted.{Contains-permutation, IsPermutation-sym}
 use Rattle.sqlite_trees.proofs.ListLemmas.{IsPermutation-filter, all-append, all_both, filter-map}
 use Rattle.period_core.specs.Windows.{window_sees}
@@ -29,17 +28,20 @@ use Rattle.catalog_core.specs.table.TableWords.{table_of, value_columns}
 use Rattle.history_model.specs.Histories.{History}
 use Rattle.history_model.specs.OrdinaryQuery.{VisibleInHistory, InCombined, InProduct, InQuery, VisibleInTables, meets_all}
 use Rattle.history_model.specs.Versions.{row_of}
+use Rattle.period_keys.specs.FixedKeys.{HasFrom}
 use Rattle.period_keys.proofs.Members.{from_filter, from_map, in_map}
+use Rattle.snapshot_audit.proofs.Zips.{zip_push, zip_weaker}
 use Rattle.version_store.specs.Contents.{Contents, TableVersion, of_table, version_in}
 use Rattle.version_store.specs.GoodStore.{AreGood, IsGoodVersion, NoExtraCondition}
 use Rattle.version_store.specs.RowValues.{are_of_columns, is_of_column}
 use Rattle.version_store.specs.Scans.{seen_of}
 use Rattle.ended_versions.specs.Packed.{seen_through}
 use Rattle.script_engine.specs.engine.Answering.{AreRowsSeen, IsKnown, IsOfCatalog, SeesRows}
-use Rattle.script_engine.specs.engine.Needed.{AddNeeded, EndInRow, InRows, IsNeeded, IsNeededAfter, IsNeededBy, IsPrunedAfter, SeeNeeded, SeesWidth}
+use Rattle.script_engine.specs.engine.Needed.{AddNeeded, ArePlaced, HaveRowFrom, InRows, IsNeeded, IsNeededAfter, IsNeededBy, IsPrunedAfter, SeeNeeded, SeesWidth}
 use Rattle.script_engine.specs.engine.Stored.{AreOfHistory}
 use Rattle.script_engine.proofs.Answering.{at_length}
 use Rattle.script_engine.proofs.Fits.{all_are, each_among, rows_fit}
+use Rattle.script_engine.proofs.Read.{has_behind}
 use Rattle.script_engine.proofs.Seen.{sees_rows}
 
 abbrev Conditions : Type 0
@@ -135,11 +137,36 @@ in_rows_more (others ∷ earlier) rows day first second (before, behind, there, 
   sym (append_assoc before behind second) ∙ ap (λ (l : List Value). l ++ second) is,
 )
 
-in_rows_end : (earlier : List (List PeriodRow)) (rows : List PeriodRow) (day : ℤ) (values : List Value) → InRows (earlier ++ rows ∷ []) day values → EndInRow rows day values
-in_rows_end [] rows day values (last, none, here, is_none, is) = ([], last, here, sym (append-nil last) ∙ sym (ap (λ (l : List Value). last ++ l) is_none) ∙ is)
-in_rows_end (others ∷ earlier) rows day values (before, behind, there, more, is) =
-    let (first, last, here, its) = in_rows_end earlier rows day behind more in
-    (before ++ first, last, here, append_assoc before first last ∙ ap (λ (l : List Value). before ++ l) its ∙ is)
+-- no lists have no places
+pub no_lists_placed : ArePlaced [] [] 0
+no_lists_placed = record { wide = λ day values none. ap length none; each = tt }
+
+rows_split : (earlier : List (List PeriodRow)) (rows : List PeriodRow) (day : ℤ) (values : List Value) → InRows (earlier ++ rows ∷ []) day values → (first : List Value) × (last : List Value) × InRows earlier day first × InSnapshot rows day last × (first ++ last ≡ values)
+rows_split [] rows day values (last, none, here, is_none, is) = ([], last, refl, here, sym (append-nil last) ∙ sym (ap (λ (l : List Value). last ++ l) is_none) ∙ is)
+rows_split (others ∷ earlier) rows day values (before, behind, there, more, is) =
+    let (first, last, stand, here, its) = rows_split earlier rows day behind more in
+    (before ++ first, last, (before, first, there, stand, refl), here, append_assoc before first last ∙ ap (λ (l : List Value). before ++ l) its ∙ is)
+
+-- lists have their places, and one more comes behind them
+pub placed_more : (lists : List (List PeriodRow)) (places : List ℕ) (start width next : ℕ) (rows : List PeriodRow) → ((day : ℤ) (values : List Value) → InSnapshot rows day values → length values ≡ width) → next ≡ start + width →
+    ArePlaced lists places start → ArePlaced (lists ++ rows ∷ []) (places ++ start ∷ []) next
+placed_more lists places start width next rows wide next_is placed = record {
+  wide = λ day values stand.
+      let (first, last, before, here, is) = rows_split lists rows day values stand in
+      let sizes = length-append first last in let one = placed.wide day first before in let other = wide day last here in
+      sym (ap length is) ∙ omega (arith, sizes, one, other, next_is);
+  each =
+      zip_push (λ others at. (day : ℤ) (values : List Value) → InRows (lists ++ rows ∷ []) day values → HaveRowFrom others at day values) lists places rows start
+      (zip_weaker (λ others at. (day : ℤ) (values : List Value) → InRows lists day values → HaveRowFrom others at day values)
+      (λ others at. (day : ℤ) (values : List Value) → InRows (lists ++ rows ∷ []) day values → HaveRowFrom others at day values)
+      (λ others at has day values stand.
+      let (first, last, before, here, is) = rows_split lists rows day values stand in
+      let (known, there, from) = has day first before in
+      (known, there, subst (HasFrom known at) is (has_behind known first last at from))) lists places placed.each)
+      (λ day values stand.
+      let (first, last, before, here, is) = rows_split lists rows day values stand in
+      (last, here, (first, [], placed.wide day first before, ap (λ (l : List Value). first ++ l) (append-nil last) ∙ is)));
+}
 
 -- rows with the same snapshots as those that are looked up
 pub looked_up_alike : (StandBefore : ℤ → List Value → Type 0) (conjuncts : Conditions) (start : ℕ) (InSet : ℤ → List Value → Type 0) (rows others : List PeriodRow) → Equivalent rows others → IsPrunedAfter StandBefore conjuncts start InSet rows → IsPrunedAfter StandBefore conjuncts start InSet others
@@ -156,22 +183,16 @@ needed_always history earlier conjuncts start reference rows needed = record {
   complete = λ day first values rest long before sees met. needed.complete day first values rest long sees met;
 }
 
--- rows that are needed after one of those of the last of the earlier lists
-pub needed_after_last : (history : History) (lists : List (List PeriodRow)) (previous : List PeriodRow) (conjuncts : Conditions) (start : ℕ) (reference : QueryReference) (rows : List PeriodRow) →
-    IsPrunedAfter (EndInRow previous) conjuncts start (λ day. VisibleInHistory history day reference) rows → IsNeededAfter history (lists ++ previous ∷ []) conjuncts start reference rows
-needed_after_last history lists previous conjuncts start reference rows pruned = record {
+-- rows that are needed after one of those of an earlier list
+pub needed_after_list : (history : History) (lists : List (List PeriodRow)) (places : List ℕ) (start index at : ℕ) (previous : List PeriodRow) (conjuncts : Conditions) (reference : QueryReference) (rows : List PeriodRow) → ArePlaced lists places start →
+    slice_get lists index ≡ Some previous → slice_get places index ≡ Some at → IsPrunedAfter (HaveRowFrom previous at) conjuncts start (λ day. VisibleInHistory history day reference) rows → IsNeededAfter history lists conjuncts start reference rows
+needed_after_list history lists places start index at previous conjuncts reference rows placed there its pruned = record {
   sound = pruned.sound;
-  complete = λ day first values rest long before sees met. pruned.complete day first values rest long (in_rows_end lists previous day first before) sees met;
+  complete = λ day first values rest long before sees met. pruned.complete day first values rest long (has day first before) sees met;
 }
-
--- a list that ends with this element is those before it, and then it
-pub last_of : {X : Type 0} (xs : List X) (x : X) → slice_get xs (length xs - 1) ≡ Some x → (front : List X) × (xs ≡ front ++ x ∷ [])
-last_of xs x there =
-    let below : length xs - 1 < length xs = slice_get_within xs (length xs - 1) x there in (
-      take (length xs - 1) xs,
-      sym (take_all (length xs - 1 + 1) xs (omega arith)) ∙ take_more xs (length xs - 1) x below
-          ∙ ap (λ y. take (length xs - 1) xs ++ y ∷ []) (get_or_from_slice_get xs (length xs - 1) x x there),
-    )
+  where
+    has : (day : ℤ) (values : List Value) → InRows lists day values → HaveRowFrom previous at day values
+    has = (rw (there, its) at (AllZip-left (λ rows at. (day : ℤ) (values : List Value) → InRows lists day values → HaveRowFrom rows at day values) lists places placed.each index))
 
 -- ---- lists in their places
 

@@ -1,6 +1,6 @@
 -- The rows that are read of a table's versions in memory: those that a reference sees, or that it
 -- needs of them.
-use Rattle.std.proofs.Common.{◌≡◌, ◌+◌, ◌++◌, ◌∷◌, ◌∙◌, [], ℕ, ℤ, List, ap, append_assoc, arith, inl, inr, length, length-append, map, refl, subst, sym, true}
+use Rattle.std.proofs.Common.{◌≡◌, ◌⊎◌, false, ◌++◌, ◌∷◌, ◌∙◌, [], ℕ, ℤ, List, ap, append_assoc, arith, inl, inr, length, length-append, map, refl, subst, sym, true}
 use Rattle.std.specs.Prelude.{IsTrue}
 use Rattle.std.proofs.lemmas.Bool.{false≢true}
 use Rattle.std.specs.List.{Contains}
@@ -21,7 +21,6 @@ use Rattle.period_keys.specs.FixedKeys.{HasFrom, IsRangeAfter, IsRangeWithin}
 use Rattle.period_keys.specs.Keys.{values_at}
 use Rattle.period_keys.specs.Ranges.{is_in_range}
 use Rattle.period_keys.specs.Rows.{RowsByKey}
-use Rattle.period_keys.specs.Versions.{version_key}
 use Rattle.period_keys.proofs.Members.{from_filter, from_map, in_filter, in_map}
 use Rattle.ended_versions.specs.Packed.{Hold, PackedVersion, seen_through}
 use Rattle.sequenced_ops.specs.Planning.{RulesOut}
@@ -29,36 +28,48 @@ use Rattle.sequenced_ops.proofs.TwoRows.{holds-append, holds-nil, holds-push}
 use Rattle.script_engine.specs.declared.engine.reading.Access.{Access}
 use Rattle.script_engine.specs.engine.Answering.{SeesRows}
 use Rattle.script_engine.specs.engine.Ended.{ended_in}
-use Rattle.script_engine.specs.engine.Needed.{EndInRow, IsNeeded, IsPrunedAfter, SeesWidth}
-use Rattle.script_engine.specs.engine.Reading.{AddRead, AreTaken, IsRead, MayBeUnread, positions_in, versions_in}
+use Rattle.script_engine.specs.engine.Needed.{HaveRowFrom, IsNeeded, IsPrunedAfter, SeesWidth}
+use Rattle.script_engine.specs.engine.Reading.{AddRead, AreTaken, MayBeUnread, is_within, versions_in}
 use Rattle.script_engine.specs.engine.Stored.{RowsRepresent}
 use Rattle.script_engine.proofs.Seen.{memory_seen, sees_rows}
 use Rattle.script_engine.proofs.Taken.{exactly_taken, taken_whole, taken_within}
 
--- the versions that an access leaves and conditions do not rule out
-abbrev pub AreUnruled : Access → List ℕ → List (Tree CompareValues) → ℕ → List VersionRow → List VersionRow → Type 0
-AreUnruled access positions conjuncts start =
-    AreTaken (IsRead access (λ (v : VersionRow). Unit {0})) (MayBeUnread access positions (λ (v : VersionRow). RulesOut conjuncts start v.values))
+-- the reference does not see the version, or conditions rule it out
+abbrev MayLack : QueryReference → List (Tree CompareValues) → ℕ → VersionRow → Type 0
+MayLack reference conjuncts start v = (window_sees reference.window v.from v.to ≡ false) ⊎ RulesOut conjuncts start v.values
+
+-- the reference sees the version
+abbrev IsInSight : QueryReference → VersionRow → Type 0
+IsInSight reference v = window_sees reference.window v.from v.to ≡ true
+
+-- the versions that an access leaves, and that a reference sees and conditions do not rule out
+abbrev pub AreUnruled : QueryReference → Access → List (Tree CompareValues) → ℕ → List VersionRow → List VersionRow → Type 0
+AreUnruled reference access conjuncts start = AreTaken (IsInSight reference) (MayBeUnread access (MayLack reference conjuncts start))
 
 -- the rows of such versions are added
-abbrev pub AddUnruled : Access → List ℕ → List (Tree CompareValues) → ℕ → List VersionRow → List PeriodRow → List PeriodRow → Type 0
-AddUnruled access positions conjuncts start = AddRead access positions (λ (v : VersionRow). Unit {0}) (λ (v : VersionRow). RulesOut conjuncts start v.values) row_of
+abbrev pub AddUnruled : QueryReference → Access → List (Tree CompareValues) → ℕ → List VersionRow → List PeriodRow → List PeriodRow → Type 0
+AddUnruled reference access conjuncts start = AddRead (IsInSight reference) (MayBeUnread access (MayLack reference conjuncts start)) row_of
 
--- values at the end of a row have their place in it whatever follows
-row_before : (at : ℕ) (before known first after : List Value) → before ++ known ≡ first → at + length known ≡ length first → HasFrom known at (first ++ after)
-row_before at before known first after its long =
-    (before, after, omega (arith, sym (length-append before known) ∙ ap length its, long), sym (append_assoc before known after) ∙ ap (λ (l : List Value). l ++ after) its)
+-- values that a row has from a place on, the row followed by others has too
+pub has_behind : (known row behind : List Value) (at : ℕ) → HasFrom known at row → HasFrom known at (row ++ behind)
+has_behind known row behind at (before, after, long, is) = (
+  before,
+  after ++ behind,
+  long,
+  ap (λ (l : List Value). before ++ l) (sym (append_assoc known after behind)) ∙ sym (append_assoc before (known ++ after) behind) ∙ ap (λ (l : List Value). l ++ behind) is,
+)
 
--- without conditions and over all keys they are those that the window sees
-pub unruled_all : (access : Access) (positions : List ℕ) (all some : List VersionRow) → ((key : List Value) → is_in_range access.range key ≡ true) → AreUnruled access positions [] 0 all some → some ≡ seen_through access.window all
-unruled_all access positions all some whole read =
-    exactly_taken (IsRead access (λ (v : VersionRow). Unit {0})) (MayBeUnread access positions (λ (v : VersionRow). RulesOut [] 0 v.values)) (λ (v : VersionRow). window_sees access.window v.from v.to)
-    (λ v is. is.0)
+-- without conditions and over all keys they are those that the reference sees
+unruled_all : (reference : QueryReference) (access : Access) (all some : List VersionRow) → access.window ≡ reference.window → ((v : VersionRow) → is_within access v ≡ true) → AreUnruled reference access [] 0 all some →
+    some ≡ seen_through reference.window all
+unruled_all reference access all some at whole read =
+    exactly_taken (IsInSight reference) (MayBeUnread access (MayLack reference [] 0)) (λ (v : VersionRow). window_sees reference.window v.from v.to)
+    (λ v is. is)
     (λ v may. elim may [
-      | inl unseen ↦ unseen
+      | inl unseen ↦ ap (λ (w : Window). window_sees w v.from v.to) (sym at) ∙ unseen
       | inr rest ↦ elim rest [
-        | inl outside ↦ absurd (false≢true (sym outside ∙ whole (version_key positions v)))
-        | inr ruled ↦ absurd (ruled [] [] refl refl)
+        | inl outside ↦ absurd (false≢true (sym outside ∙ whole v))
+        | inr lacked ↦ elim lacked [ inl unseen ↦ unseen | inr ruled ↦ absurd (ruled [] [] refl refl) ]
       ]
     ])
     read
@@ -69,11 +80,11 @@ module _ (history : History) (tables : List RowsByKey) (lists : List (List Packe
 
   -- a reading adds versions of its table alone
   pub its_read : (access : Access) (conjuncts : List (Tree CompareValues)) (start : ℕ) (rows new : List PeriodRow) → access.table ≡ reference.table →
-      ((versions : List VersionRow) → Hold (ended_in lists access.table) versions → AddUnruled access (positions_in tables access.table) conjuncts start (versions_in tables access.table versions) rows new) →
-      AddUnruled access (positions_in tables reference.table) conjuncts start its_versions rows new
+      ((versions : List VersionRow) → Hold (ended_in lists access.table) versions → AddUnruled reference access conjuncts start (versions_in tables access.table versions) rows new) →
+      AddUnruled reference access conjuncts start its_versions rows new
   its_read access conjuncts start rows new same read =
       let ended = represents.ended reference.table in
-      subst (λ (number : ℕ). AddUnruled access (positions_in tables number) conjuncts start (versions_in tables number ended.versions) rows new) same
+      subst (λ (number : ℕ). AddUnruled reference access conjuncts start (versions_in tables number ended.versions) rows new) same
       (read ended.versions (subst (λ (number : ℕ). Hold (ended_in lists number) ended.versions) (sym same) ended.held))
 
   abbrev sight : List VersionRow
@@ -86,66 +97,68 @@ module _ (history : History) (tables : List RowsByKey) (lists : List (List Packe
       (memory_seen represents.contents tables reference.table (ended_in lists reference.table) reference.window represents.current (represents.ended reference.table))
 
   -- of all keys and without conditions, what is read is what the reference sees
-  pub all_read : (access : Access) (positions : List ℕ) (some : List VersionRow) → access.window ≡ reference.window → ((key : List Value) → is_in_range access.range key ≡ true) → AreUnruled access positions [] 0 its_versions some → SeesRows history reference (map row_of some)
-  all_read access positions some at whole read =
-      subst (λ (versions : List VersionRow). SeesRows history reference (map row_of versions))
-      (sym (unruled_all access positions its_versions some whole read ∙ ap (λ (w : Window). seen_through w its_versions) at)) sight_seen
+  pub all_read : (access : Access) (some : List VersionRow) → access.window ≡ reference.window → ((v : VersionRow) → is_within access v ≡ true) → AreUnruled reference access [] 0 its_versions some → SeesRows history reference (map row_of some)
+  all_read access some at whole read =
+      subst (λ (versions : List VersionRow). SeesRows history reference (map row_of versions)) (sym (unruled_all reference access its_versions some at whole read)) sight_seen
 
-  module _ (conjuncts : List (Tree CompareValues)) (start width : ℕ) (access : Access) (positions : List ℕ) (some : List VersionRow) (at : access.window ≡ reference.window) (read : AreUnruled access positions conjuncts start its_versions some) where
+  module _ (conjuncts : List (Tree CompareValues)) (start width : ℕ) (access : Access) (some : List VersionRow) (at : access.window ≡ reference.window) (read : AreUnruled reference access conjuncts start its_versions some) where
     -- each row that is read is seen
     read_sound : (day : ℤ) (values : List Value) → InSnapshot (map row_of some) day values → VisibleInHistory history day reference values
     read_sound day values h =
         let (row, among, same, on) = held (map row_of some) day values h in
         let (v, its, made) = from_map row_of some row among in
-        let (here, (sees, any)) = taken_within (IsRead access (λ (w : VersionRow). Unit {0})) (MayBeUnread access positions (λ (w : VersionRow). RulesOut conjuncts start w.values)) v read its in
-        let seen : Contains sight v = in_filter (λ (w : VersionRow). window_sees reference.window w.from w.to) its_versions v here (ap (λ (w : Window). window_sees w v.from v.to) (sym at) ∙ sees) in
+        let (here, sees) = taken_within (IsInSight reference) (MayBeUnread access (MayLack reference conjuncts start)) v read its in
+        let seen : Contains sight v = in_filter (λ (w : VersionRow). window_sees reference.window w.from w.to) its_versions v here sees in
         (sight_seen.daily day values).0 (in_snapshot (map row_of sight) day values (row, subst (Contains (map row_of sight)) made (in_map row_of sight v seen), same, on))
 
     -- each row that is seen, and that is part of a combined row that meets the conditions, is read if its key is in the range
-    read_whole : (day : ℤ) (first values rest : List Value) → length first ≡ start → VisibleInHistory history day reference values → IsTrue (meets_all conjuncts (first ++ (values ++ rest))) → is_in_range access.range (values_at positions values) ≡ true → InSnapshot (map row_of some) day values
+    read_whole : (day : ℤ) (first values rest : List Value) → length first ≡ start → VisibleInHistory history day reference values → IsTrue (meets_all conjuncts (first ++ (values ++ rest))) → is_in_range access.rows.range (values_at access.rows.positions values) ≡ true → InSnapshot (map row_of some) day values
     read_whole day first values rest long sees met within =
         let (row, among, same, on) = held (map row_of sight) day values ((sight_seen.daily day values).1 sees) in
         let (v, its, made) = from_map row_of sight row among in
         let (here, passes) = from_filter (λ (w : VersionRow). window_sees reference.window w.from w.to) its_versions v its in
         let its_values : v.values ≡ values = ap (λ (r : PeriodRow). r.values) made ∙ same in
-        let never : MayBeUnread access positions (λ (w : VersionRow). RulesOut conjuncts start w.values) v → ⊥ = λ may. elim may [
+        let never : MayBeUnread access (MayLack reference conjuncts start) v → ⊥ = λ may. elim may [
           | inl unseen ↦ false≢true (sym unseen ∙ ap (λ (w : Window). window_sees w v.from v.to) at ∙ passes)
           | inr more ↦ elim more [
-            | inl outside ↦ false≢true (sym outside ∙ ap (λ (vs : List Value). is_in_range access.range (values_at positions vs)) its_values ∙ within)
-            | inr ruled ↦ ruled first rest long (subst (λ (vs : List Value). meets_all conjuncts (first ++ (vs ++ rest)) ≡ true) (sym its_values) met)
+            | inl outside ↦ false≢true (sym outside ∙ ap (λ (vs : List Value). is_in_range access.rows.range (values_at access.rows.positions vs)) its_values ∙ within)
+            | inr lacked ↦ elim lacked [
+              | inl unseen ↦ false≢true (sym unseen ∙ passes)
+              | inr ruled ↦ ruled first rest long (subst (λ (vs : List Value). meets_all conjuncts (first ++ (vs ++ rest)) ≡ true) (sym its_values) met)
+            ]
           ]
         ] in
         in_snapshot (map row_of some) day values
-        (row, subst (Contains (map row_of some)) made (in_map row_of some v (taken_whole (IsRead access (λ (w : VersionRow). Unit {0})) (MayBeUnread access positions (λ (w : VersionRow). RulesOut conjuncts start w.values)) v never read here)), same, on)
+        (row, subst (Contains (map row_of some)) made (in_map row_of some v (taken_whole (IsInSight reference) (MayBeUnread access (MayLack reference conjuncts start)) v never read here)), same, on)
 
     -- rows of the keys that the conditions leave are needed
-    pub read_needed : SeesWidth history reference width → IsRangeWithin conjuncts start width positions access.range → IsNeeded history conjuncts start reference (map row_of some)
+    pub read_needed : SeesWidth history reference width → IsRangeWithin conjuncts start width access.rows.positions access.rows.range → IsNeeded history conjuncts start reference (map row_of some)
     read_needed wide within = record {
       sound = read_sound;
       complete = λ day first values rest long sees met. read_whole day first values rest long sees met (within first values rest long (wide day values sees) met);
     }
 
     -- after one row more, those of the keys that its values leave are looked up too
-    pub read_after : (previous : List PeriodRow) (row : PeriodRow) (rows new : List PeriodRow) (at : ℕ) → SeesWidth history reference width → at + length row.values ≡ start → IsRangeAfter conjuncts row.values at start width positions access.range → new ≡ rows ++ map row_of some →
-        IsPrunedAfter (EndInRow previous) conjuncts start (λ day. VisibleInHistory history day reference) rows → IsPrunedAfter (EndInRow (previous ++ row ∷ [])) conjuncts start (λ day. VisibleInHistory history day reference) new
-    read_after previous row rows new at wide known_end within is old = record {
+    pub read_after : (previous : List PeriodRow) (row : PeriodRow) (rows new : List PeriodRow) (at : ℕ) → SeesWidth history reference width → IsRangeAfter conjuncts row.values at start width access.rows.positions access.rows.range → new ≡ rows ++ map row_of some →
+        IsPrunedAfter (HaveRowFrom previous at) conjuncts start (λ day. VisibleInHistory history day reference) rows → IsPrunedAfter (HaveRowFrom (previous ++ row ∷ []) at) conjuncts start (λ day. VisibleInHistory history day reference) new
+    read_after previous row rows new at wide within is old = record {
       sound = λ day values h. elim ((holds-append rows (map row_of some) day values).0 (subst (λ (l : List PeriodRow). InSnapshot l day values) is h)) [
         | inl was ↦ old.sound day values was
         | inr here ↦ read_sound day values here
       ];
-      complete = λ day first values rest long (before, last, here, split) sees met.
+      complete = λ day first values rest long (known, here, has) sees met.
           subst (λ (l : List PeriodRow). InSnapshot l day values) (sym is)
-          ((holds-append rows (map row_of some) day values).1 (elim ((holds-push previous row day last).0 here) [
-            | inl was ↦ inl (old.complete day first values rest long (before, last, was, split) sees met)
-            | inr (same, from, to) ↦ let its : before ++ row.values ≡ first = ap (λ (l : List Value). before ++ l) same ∙ split in
-                inr (read_whole day first values rest long sees met
-                (within first values rest long (wide day values sees) (row_before at before row.values first (values ++ rest) its (known_end ∙ sym long)) met))
+          ((holds-append rows (map row_of some) day values).1 (elim ((holds-push previous row day known).0 here) [
+            | inl was ↦ inl (old.complete day first values rest long (known, was, has) sees met)
+            | inr (same, from, to) ↦
+                let its : HasFrom row.values at (first ++ (values ++ rest)) = has_behind row.values first (values ++ rest) at (subst (λ (vs : List Value). HasFrom vs at first) (sym same) has) in
+                inr (read_whole day first values rest long sees met (within first values rest long (wide day values sees) its met))
           ]));
     }
 
 -- nothing is looked up after no rows
-pub read_after_none : (history : History) (conjuncts : List (Tree CompareValues)) (start : ℕ) (reference : QueryReference) → IsPrunedAfter (EndInRow []) conjuncts start (λ day. VisibleInHistory history day reference) []
-read_after_none history conjuncts start reference = record {
+pub read_after_none : (history : History) (conjuncts : List (Tree CompareValues)) (start at : ℕ) (reference : QueryReference) → IsPrunedAfter (HaveRowFrom [] at) conjuncts start (λ day. VisibleInHistory history day reference) []
+read_after_none history conjuncts start at reference = record {
   sound = λ day values h. absurd (holds-nil day values h);
-  complete = λ day first values rest long (before, last, here, is) sees met. absurd (holds-nil day last here);
+  complete = λ day first values rest long (known, here, has) sees met. absurd (holds-nil day known here);
 }

@@ -15,11 +15,10 @@ use Rattle.period_core.specs.declared.version.VersionRow.{VersionRow}
 use Rattle.period_core.specs.declared.window.Window.{Window}
 use Rattle.catalog_core.specs.stored.StoredAnswers.{is_shown, meets_tests, shown_versions}
 use Rattle.catalog_core.specs.declared.stored.Stored.{Stored}
-use Rattle.period_keys.specs.Versions.{has_key_in}
 use Rattle.history_model.proofs.HistoryVersionFacts.{from_images}
 use Rattle.version_store.specs.Contents.{Contents, TableVersion, of_table, version_cmp, version_in}
 use Rattle.script_engine.specs.declared.engine.reading.Access.{Access}
-use Rattle.script_engine.specs.engine.Reading.{AreTaken, IsRead, MayBeUnread}
+use Rattle.script_engine.specs.engine.Reading.{AreTaken, MayBeUnread, is_within}
 use Rattle.script_engine.specs.engine.VersionLists.{AreShownIn}
 use Rattle.script_engine.proofs.PlanFacts.{one_version}
 use Rattle.script_engine.proofs.ShownFacts.{below, versions_sorted}
@@ -68,9 +67,9 @@ unseen_unshown false b unseen = refl
 unseen_unshown true b unseen = absurd (false≢true (sym unseen))
 
 -- a version that is not read is not shown, if each that is shown has its key in the range
-pub unread_unshown : (query : Stored) (access : Access) (positions : List ℕ) → access.window ≡ query.window → ((v : VersionRow) → is_shown query v ≡ true → has_key_in positions access.range v ≡ true) →
-    (v : VersionRow) → MayBeUnread access positions (λ (w : VersionRow). is_shown query w ≡ false) v → is_shown query v ≡ false
-unread_unshown query access positions same within v may = elim may [
+pub unread_unshown : (query : Stored) (access : Access) → access.window ≡ query.window → ((v : VersionRow) → is_shown query v ≡ true → is_within access v ≡ true) →
+    (v : VersionRow) → MayBeUnread access (λ (w : VersionRow). is_shown query w ≡ false) v → is_shown query v ≡ false
+unread_unshown query access same within v may = elim may [
   | inl unseen ↦ unseen_unshown (window_sees query.window v.from v.to) (meets_tests query.condition v) (ap (λ (w : Window). window_sees w v.from v.to) (sym same) ∙ unseen)
   | inr rest ↦ elim rest [
     | inl outside ↦ by_test (is_shown query v) refl outside
@@ -78,13 +77,13 @@ unread_unshown query access positions same within v may = elim may [
   ]
 ]
   where
-    by_test : (b : Bool) → is_shown query v ≡ b → has_key_in positions access.range v ≡ false → b ≡ false
+    by_test : (b : Bool) → is_shown query v ≡ b → is_within access v ≡ false → b ≡ false
     by_test false shown outside = refl
     by_test true shown outside = absurd (false≢true (sym outside ∙ within v shown))
 
 -- the versions that are read and shown are those that the query shows of all
-pub read_shown : (query : Stored) (access : Access) (positions : List ℕ) → access.window ≡ query.window → ((v : VersionRow) → is_shown query v ≡ true → has_key_in positions access.range v ≡ true) → (all some : List VersionRow) →
-    AreTaken (IsRead access (λ (v : VersionRow). is_shown query v ≡ true)) (MayBeUnread access positions (λ (v : VersionRow). is_shown query v ≡ false)) all some → some ≡ shown_versions query all
-read_shown query access positions same within all some read =
-    exactly_taken (IsRead access (λ (v : VersionRow). is_shown query v ≡ true)) (MayBeUnread access positions (λ (v : VersionRow). is_shown query v ≡ false)) (is_shown query)
-    (λ v is. is.1) (unread_unshown query access positions same within) read
+pub read_shown : (query : Stored) (access : Access) → access.window ≡ query.window → ((v : VersionRow) → is_shown query v ≡ true → is_within access v ≡ true) → (all some : List VersionRow) →
+    AreTaken (λ (v : VersionRow). is_shown query v ≡ true) (MayBeUnread access (λ (v : VersionRow). is_shown query v ≡ false)) all some → some ≡ shown_versions query all
+read_shown query access same within all some read =
+    exactly_taken (λ (v : VersionRow). is_shown query v ≡ true) (MayBeUnread access (λ (v : VersionRow). is_shown query v ≡ false)) (is_shown query)
+    (λ v is. is) (unread_unshown query access same within) read

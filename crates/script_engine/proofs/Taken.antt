@@ -8,20 +8,28 @@ use Rattle.period_core.specs.Windows.{window_sees}
 use Rattle.period_core.specs.declared.value.Value.{Value}
 use Rattle.period_core.specs.declared.version.VersionRow.{VersionRow}
 use Rattle.catalog_core.specs.table.TableWords.{table_of}
-use Rattle.period_keys.specs.Rows.{RowsByKey}
-use Rattle.period_keys.specs.Versions.{has_key_in, version_key}
+use Rattle.period_keys.specs.Current.{rows_by_key}
+use Rattle.period_keys.specs.TableRows.{TableRows}
+use Rattle.period_keys.specs.Versions.{version_key}
 use Rattle.ended_versions.specs.Hashes.{hash_at, hash_of, shares_hash}
 use Rattle.ended_versions.specs.Packed.{seen_through}
 use Rattle.ended_versions.proofs.FoundFacts.{filter-reverse}
 use Rattle.script_engine.specs.declared.engine.reading.Access.{Access}
 use Rattle.script_engine.specs.engine.InMemory.{rows_in}
-use Rattle.script_engine.specs.engine.Reading.{AddRead, AreTaken, IsRead, MayBeUnread, left, none, positions_in, taken}
+use Rattle.script_engine.specs.engine.Reading.{AddRead, AreTaken, IsSeen, MayBeUnread, is_within, left, none, taken}
+use Rattle.script_engine.proofs.Indexed.{none_there, rows_of_table}
 
 -- of two lists, one after the other
 pub taken_both : {X : Type 0} (IsTaken MayLack : X → Type 0) {first second some others : List X} → AreTaken IsTaken MayLack first some → AreTaken IsTaken MayLack second others → AreTaken IsTaken MayLack (first ++ second) (some ++ others)
 taken_both IsTaken MayLack none two = two
 taken_both IsTaken MayLack (taken is one) two = taken is (taken_both IsTaken MayLack one two)
 taken_both IsTaken MayLack (left may one) two = left may (taken_both IsTaken MayLack one two)
+
+-- if more may be left out
+pub taken_looser : {X : Type 0} (IsTaken MayLack MayMiss : X → Type 0) → ((x : X) → MayLack x → MayMiss x) → {all some : List X} → AreTaken IsTaken MayLack all some → AreTaken IsTaken MayMiss all some
+taken_looser IsTaken MayLack MayMiss more none = none
+taken_looser IsTaken MayLack MayMiss more (taken is rest) = taken is (taken_looser IsTaken MayLack MayMiss more rest)
+taken_looser IsTaken MayLack MayMiss more (left {x = x} may rest) = left (more x may) (taken_looser IsTaken MayLack MayMiss more rest)
 
 -- a selection by a test takes the elements that pass it
 pub taken_by : {X : Type 0} (IsTaken MayLack : X → Type 0) (test : X → Bool) → ((x : X) → test x ≡ true → IsTaken x) → ((x : X) → test x ≡ false → MayLack x) → (xs : List X) → AreTaken IsTaken MayLack xs (filter test xs)
@@ -70,9 +78,9 @@ module _ {X : Type 0} (IsTaken MayLack : X → Type 0) where
 
 -- ---- the rows that are added
 
-module _ {R : Type 0} (access : Access) (positions : List ℕ) (IsTaken MayLack : VersionRow → Type 0) (made : VersionRow → R) where
+module _ {R : Type 0} (IsTaken MayLack : VersionRow → Type 0) (made : VersionRow → R) where
   abbrev Add : List VersionRow → List R → List R → Type 0
-  Add = AddRead access positions IsTaken MayLack made
+  Add = AddRead IsTaken MayLack made
 
   pub add_none : (rows : List R) → Add [] rows rows
   add_none rows = ([], none, sym (append-nil rows))
@@ -84,62 +92,68 @@ module _ {R : Type 0} (access : Access) (positions : List ℕ) (IsTaken MayLack 
     and ∙ ap (λ (l : List R). l ++ map made others) is ∙ append_assoc rows (map made some) (map made others) ∙ ap (λ (l : List R). rows ++ l) (sym (map-append made some others)),
   )
 
-  pub add_taken : (v : VersionRow) (rows new : List R) → IsRead access IsTaken v → new ≡ rows ++ made v ∷ [] → Add (v ∷ []) rows new
+  pub add_taken : (v : VersionRow) (rows new : List R) → IsTaken v → new ≡ rows ++ made v ∷ [] → Add (v ∷ []) rows new
   add_taken v rows new is same = (v ∷ [], taken is none, same)
 
-  pub add_left : (v : VersionRow) (rows : List R) → MayBeUnread access positions MayLack v → Add (v ∷ []) rows rows
+  pub add_left : (v : VersionRow) (rows : List R) → MayLack v → Add (v ∷ []) rows rows
   add_left v rows may = ([], left may none, sym (append-nil rows))
 
-  -- of those that pass a test, if each of the rest may be left out
-  pub add_filtered : (test : VersionRow → Bool) → ((v : VersionRow) → test v ≡ false → MayBeUnread access positions MayLack v) → (all : List VersionRow) (rows new : List R) → Add (filter test all) rows new → Add all rows new
-  add_filtered test lack all rows new (some, read, is) = (
-    some,
-    taken_twice (λ (v : VersionRow). Unit {0}) (MayBeUnread access positions MayLack) (IsRead access IsTaken) (MayBeUnread access positions MayLack) (IsRead access IsTaken) (MayBeUnread access positions MayLack)
-        (λ v any so. so) (λ v may. may) (λ v may. may)
-        (taken_by (λ (v : VersionRow). Unit {0}) (MayBeUnread access positions MayLack) test (λ v passes. tt) lack all) read,
-    is,
-  )
+  module _ (MayMiss : VersionRow → Type 0) (more : (v : VersionRow) → MayLack v → MayMiss v) where
+    -- more may be left out
+    pub add_looser : (all : List VersionRow) (rows new : List R) → Add all rows new → AddRead IsTaken MayMiss made all rows new
+    add_looser all rows new (some, read, is) = (some, taken_looser IsTaken MayLack MayMiss more read, is)
 
-  -- of the table of a number
-  pub add_of_table : (tables : List RowsByKey) (number : ℕ) (t : RowsByKey) (rows new : List R) → table_of tables number ≡ Some t → AddRead access t.positions IsTaken MayLack made t.rows rows new → AddRead access (positions_in tables number) IsTaken MayLack made (rows_in tables number) rows new
-  add_of_table tables number t rows new there add = rw there add
+    -- of those that pass a test, if each of the rest may be left out
+    pub add_filtered : (test : VersionRow → Bool) → ((v : VersionRow) → test v ≡ false → MayMiss v) → (all : List VersionRow) (rows new : List R) → Add (filter test all) rows new → AddRead IsTaken MayMiss made all rows new
+    add_filtered test lack all rows new (some, read, is) = (
+      some,
+      taken_twice (λ (v : VersionRow). Unit {0}) MayMiss IsTaken MayLack IsTaken MayMiss (λ v any so. so) (λ v may. may) more
+          (taken_by (λ (v : VersionRow). Unit {0}) MayMiss test (λ v passes. tt) lack all) read,
+      is,
+    )
 
-  pub add_of_no_table : (tables : List RowsByKey) (number : ℕ) (rows : List R) → table_of tables number ≡ None → AddRead access (positions_in tables number) IsTaken MayLack made (rows_in tables number) rows rows
-  add_of_no_table tables number rows absent = rw absent ([], none, sym (append-nil rows))
+-- of the table of a number
+pub add_of_table : {R : Type 0} (IsTaken MayLack : VersionRow → Type 0) (made : VersionRow → R) (tables : List TableRows) (number : ℕ) (t : TableRows) (rows new : List R) → table_of tables number ≡ Some t → AddRead IsTaken MayLack made t.rows rows new →
+    AddRead IsTaken MayLack made (rows_in (map rows_by_key tables) number) rows new
+add_of_table IsTaken MayLack made tables number t rows new there add = subst (λ (all : List VersionRow). AddRead IsTaken MayLack made all rows new) (sym (rows_of_table tables number t there)) add
+
+-- of a number without a table
+pub add_of_no_table : {R : Type 0} (IsTaken MayLack : VersionRow → Type 0) (made : VersionRow → R) (tables : List TableRows) (number : ℕ) (rows : List R) → table_of tables number ≡ None → AddRead IsTaken MayLack made (rows_in (map rows_by_key tables) number) rows rows
+add_of_no_table IsTaken MayLack made tables number rows absent = rw (none_there tables number absent) ([], none, sym (append-nil rows))
 
 -- ---- the ended versions
 
 module _ (access : Access) (positions : List ℕ) (versions : List VersionRow) where
   abbrev pub AreSeen : List VersionRow → Type 0
-  AreSeen = AreTaken (IsRead access (λ (v : VersionRow). Unit {0})) (MayBeUnread access positions (λ (v : VersionRow). ⊥)) (reverse versions)
+  AreSeen = AreTaken (IsSeen access) (MayBeUnread access (λ (v : VersionRow). ⊥)) (reverse versions)
 
   -- all that the window sees
   pub all_seen : AreSeen (reverse (seen_through access.window versions))
   all_seen =
       subst AreSeen (filter-reverse (λ (v : VersionRow). window_sees access.window v.from v.to) versions)
-      (taken_by (IsRead access (λ (v : VersionRow). Unit {0})) (MayBeUnread access positions (λ (v : VersionRow). ⊥)) (λ (v : VersionRow). window_sees access.window v.from v.to)
-      (λ v is. (is, tt)) (λ v unseen. inl unseen) (reverse versions))
+      (taken_by (IsSeen access) (MayBeUnread access (λ (v : VersionRow). ⊥)) (λ (v : VersionRow). window_sees access.window v.from v.to)
+      (λ v is. is) (λ v unseen. inl unseen) (reverse versions))
 
-  -- versions that may have a key are read, if each key in the range is this one
-  pub key_seen : (key : List Value) → ((v : VersionRow) → has_key_in positions access.range v ≡ true → version_key positions v ≡ key) → AreSeen (reverse (filter (shares_hash positions key) (seen_through access.window versions)))
+  -- versions that may have a key are read, if each in the range has this one
+  pub key_seen : (key : List Value) → ((v : VersionRow) → is_within access v ≡ true → version_key positions v ≡ key) → AreSeen (reverse (filter (shares_hash positions key) (seen_through access.window versions)))
   key_seen key whole =
       subst AreSeen (filter-reverse (shares_hash positions key) (seen_through access.window versions))
-      (taken_twice (IsRead access (λ (v : VersionRow). Unit {0})) (MayBeUnread access positions (λ (v : VersionRow). ⊥)) (λ (v : VersionRow). Unit {0}) (λ (v : VersionRow). has_key_in positions access.range v ≡ false)
-      (IsRead access (λ (v : VersionRow). Unit {0})) (MayBeUnread access positions (λ (v : VersionRow). ⊥)) (λ v is any. is) (λ v may. may) (λ v outside. inr (inl outside)) all_seen
-      (taken_by (λ (v : VersionRow). Unit {0}) (λ (v : VersionRow). has_key_in positions access.range v ≡ false) (shares_hash positions key) (λ v shares. tt) (λ v other. outside v other (has_key_in positions access.range v) refl)
+      (taken_twice (IsSeen access) (MayBeUnread access (λ (v : VersionRow). ⊥)) (λ (v : VersionRow). Unit {0}) (λ (v : VersionRow). is_within access v ≡ false)
+      (IsSeen access) (MayBeUnread access (λ (v : VersionRow). ⊥)) (λ v is any. is) (λ v may. may) (λ v outside. inr (inl outside)) all_seen
+      (taken_by (λ (v : VersionRow). Unit {0}) (λ (v : VersionRow). is_within access v ≡ false) (shares_hash positions key) (λ v shares. tt) (λ v other. outside v other (is_within access v) refl)
       (reverse (seen_through access.window versions))))
     where
-      outside : (v : VersionRow) → shares_hash positions key v ≡ false → (b : Bool) → has_key_in positions access.range v ≡ b → b ≡ false
+      outside : (v : VersionRow) → shares_hash positions key v ≡ false → (b : Bool) → is_within access v ≡ b → b ≡ false
       outside v other false is = refl
       outside v other true is = absurd (false≢true (sym other ∙ eq-eqb (hash_at positions v) (hash_of key) (ap hash_of (whole v is))))
 
 -- of the versions that a window sees, a selection takes some
 pub selected_seen : {R : Type 0} (access : Access) (positions : List ℕ) (IsTaken MayLack : VersionRow → Type 0) (made : VersionRow → R) (versions seen some : List VersionRow) (rows new : List R) →
-    AreSeen access positions versions seen → AreTaken IsTaken MayLack seen some → new ≡ rows ++ map made some → AddRead access positions IsTaken MayLack made (reverse versions) rows new
+    AreSeen access positions versions seen → AreTaken IsTaken MayLack seen some → new ≡ rows ++ map made some → AddRead IsTaken (MayBeUnread access MayLack) made (reverse versions) rows new
 selected_seen access positions IsTaken MayLack made versions seen some rows new are read is = (
   some,
-  taken_twice (IsRead access (λ (v : VersionRow). Unit {0})) (MayBeUnread access positions (λ (v : VersionRow). ⊥)) IsTaken MayLack (IsRead access IsTaken) (MayBeUnread access positions MayLack)
-      (λ v sees so. (sees.0, so))
+  taken_twice (IsSeen access) (MayBeUnread access (λ (v : VersionRow). ⊥)) IsTaken MayLack IsTaken (MayBeUnread access MayLack)
+      (λ v sees so. so)
       (λ v may. elim may [ inl unseen ↦ inl unseen | inr rest ↦ elim rest [ inl outside ↦ inr (inl outside) | inr never ↦ absurd never ] ])
       (λ v may. inr (inr may)) are read,
   is,

@@ -52,6 +52,7 @@ mod indexed;
 mod lawfulness;
 mod needed;
 mod outcome;
+mod prepared;
 mod reading;
 mod sequenced_queries;
 mod stored;
@@ -63,6 +64,7 @@ use crate::engine::indexed::load_lawful;
 use crate::engine::lawfulness::{LawfulPlan, lawful_plan};
 use crate::engine::needed::answer_query;
 use crate::engine::outcome::done;
+use crate::engine::prepared::prepare_change;
 use crate::engine::stored::shown_by;
 use crate::engine::version_lists::version_columns;
 use catalog_core::{Catalog, Change, Plan, define, of_number};
@@ -389,6 +391,16 @@ impl<S: Alter> Engine<S> {
         apply_change(alloc, &mut self.store, index, ended, table, plan, keys)
     }
 
+    /// Makes the index by which the rows are found that a change may touch, if there is to be one,
+    /// and memory for it: without it all rows are looked at. Nothing is changed.
+    fn prepare(&mut self, alloc: Global, resolved: &Result<Change, Refusal>)
+        ensures { self.new ≡ self.old }
+    {
+        if let Ok(change) = resolved {
+            let _made = prepare_change(alloc, &mut self.tables, change);
+        }
+    }
+
     /// Makes the change of this word that a statement is resolved to, or is refused as it was:
     /// if the change is lawful, what its plan ends and adds is ended and added in one
     /// transaction, and in memory. An `Err` changes nothing.
@@ -440,7 +452,7 @@ impl<S: Alter> Engine<S> {
     {
         let query = resolve_sequenced(alloc, self.store.catalog(), query)?;
         let catalog = self.store.catalog();
-        let tables = self.tables.as_slice();
+        let tables = &mut self.tables;
         let answer = answer_query(alloc, catalog, tables, &mut self.ended, &query)?;
         Ok(Outcome::Answer(answer))
     }
@@ -465,7 +477,7 @@ impl<S: Alter> Engine<S> {
             unreachable!()
         };
         let columns = version_columns(alloc, table)?;
-        let rows = shown_by(alloc, self.tables.as_slice(), &mut self.ended, &query)?;
+        let rows = shown_by(alloc, &mut self.tables, &mut self.ended, &query)?;
         Ok(Outcome::Versions(VersionList {
             columns,
             rows: Items::from_vec(rows),
@@ -506,10 +518,12 @@ impl<S: Alter> Engine<S> {
             }
             StatementForm::Update(update) => {
                 let resolved = resolve_update(alloc, self.catalog(), update);
+                self.prepare(alloc, &resolved);
                 self.change(alloc, Word::Update, resolved)
             }
             StatementForm::Delete(delete) => {
                 let resolved = resolve_delete(alloc, self.catalog(), delete);
+                self.prepare(alloc, &resolved);
                 self.change(alloc, Word::Delete, resolved)
             }
             StatementForm::Sequenced(query) => self.answer(alloc, query),

@@ -1,6 +1,7 @@
 -- The rows that a query needs of those that its table references see: enough that it gives the
 -- same.
 use Rattle.std.specs.Prelude.{◌≡◌, ◌++◌, ◌+◌, ℕ, ℤ, IsTrue, List, [], ◌∷◌, length}
+use Rattle.std.specs.List.{AllZip}
 use Rattle.period_core.specs.declared.row.PeriodRow.{PeriodRow}
 use Rattle.period_core.specs.declared.value.Value.{Value}
 use Rattle.sql_statements.specs.declared.tree.Tree.{Tree}
@@ -11,6 +12,7 @@ use Rattle.history_model.specs.Histories.{History}
 use Rattle.history_model.specs.OrdinaryQuery.{VisibleInHistory, meets_all}
 use Rattle.sequenced_ops.specs.Planning.{IsPruned}
 use Rattle.temporal_model.specs.Snapshot.{InSnapshot}
+use Rattle.period_keys.specs.FixedKeys.{HasFrom}
 
 -- all that the reference sees in the history has `width` values
 abbrev pub SeesWidth : History → QueryReference → ℕ → Type 0
@@ -32,11 +34,17 @@ InRows (rows ∷ lists) day values =
     (first : List Value) × (rest : List Value)
     × InSnapshot rows day first × InRows lists day rest × (first ++ rest ≡ values)
 
--- the values end with those of one of these rows on the day
-abbrev pub EndInRow : List PeriodRow → ℤ → List Value → Type 0
-EndInRow rows day values =
-    (first : List Value) × (last : List Value)
-    × InSnapshot rows day last × (first ++ last ≡ values)
+-- the values have, from a place on, those of one of these rows on the day
+abbrev pub HaveRowFrom : List PeriodRow → ℕ → ℤ → List Value → Type 0
+HaveRowFrom rows at day values =
+    (known : List Value) × InSnapshot rows day known × HasFrom known at values
+
+-- whenever values are those of a row of each list, one after the other, they are so many, and those
+-- of each list's row begin at its place
+pub record ArePlaced (lists : List (List PeriodRow)) (places : List ℕ) (width : ℕ) : Type 0 where
+  pub wide : (day : ℤ) (values : List Value) → InRows lists day values → length values ≡ width
+  pub each : AllZip (λ rows at. (day : ℤ) (values : List Value)
+      → InRows lists day values → HaveRowFrom rows at day values) lists places
 
 -- the rows are of the set, and lack none that can be these values of a row that meets the
 -- conditions and in which such values come before them

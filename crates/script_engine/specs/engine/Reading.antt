@@ -1,5 +1,5 @@
 -- Versions that are read of those in memory.
-use Rattle.std.specs.Prelude.{◌≡◌, ◌⊎◌, ◌++◌, ◌∷◌, [], ℕ, List, false, map, reverse, true}
+use Rattle.std.specs.Prelude.{◌≡◌, ◌⊎◌, ◌++◌, ◌∷◌, [], ℕ, Bool, List, false, map, reverse, true}
 use Rattle.std.specs.Option.{option_map_or}
 use Rattle.period_core.specs.Windows.{window_sees}
 use Rattle.period_core.specs.declared.version.VersionRow.{VersionRow}
@@ -28,23 +28,24 @@ pub data AreTaken {X : Type 0} (IsTaken MayLack : X → Type 0) : List X → Lis
   left : {x : X} {all some : List X} → MayLack x → AreTaken IsTaken MayLack all some
       → AreTaken IsTaken MayLack (x ∷ all) some
 
--- the window of the access sees the version, and the selection takes it
-abbrev pub IsRead : Access → (VersionRow → Type 0) → VersionRow → Type 0
-IsRead access IsTaken version =
-    (window_sees access.window version.from version.to ≡ true) × IsTaken version
+-- the window of the access sees the version
+abbrev pub IsSeen : Access → VersionRow → Type 0
+IsSeen access version = window_sees access.window version.from version.to ≡ true
 
--- the window of the access does not see the version, its key is not in the range, or the
+-- the version's values at the positions of the access are in its range
+abbrev pub is_within : Access → VersionRow → Bool
+is_within access version = has_key_in access.rows.positions access.rows.range version
+
+-- the window of the access does not see the version, its values are not in the range, or the
 -- selection may leave it out
-abbrev pub MayBeUnread : Access → List ℕ → (VersionRow → Type 0) → VersionRow → Type 0
-MayBeUnread access positions MayLack version =
+abbrev pub MayBeUnread : Access → (VersionRow → Type 0) → VersionRow → Type 0
+MayBeUnread access MayLack version =
     (window_sees access.window version.from version.to ≡ false)
-    ⊎ ((has_key_in positions access.range version ≡ false) ⊎ MayLack version)
+    ⊎ ((is_within access version ≡ false) ⊎ MayLack version)
 
--- the new rows are the old ones, followed by those that are made of the versions read of all
+-- the new rows are the old ones, followed by those that are made of the versions taken of all
 abbrev pub AddRead
-    : {R : Type 0} → Access → List ℕ → (VersionRow → Type 0) → (VersionRow → Type 0)
-    → (VersionRow → R) → List VersionRow → List R → List R → Type 0
-AddRead access positions IsTaken MayLack made all old new =
-    (some : List VersionRow)
-    × AreTaken (IsRead access IsTaken) (MayBeUnread access positions MayLack) all some
-    × (new ≡ old ++ map made some)
+    : {R : Type 0} → (VersionRow → Type 0) → (VersionRow → Type 0) → (VersionRow → R)
+    → List VersionRow → List R → List R → Type 0
+AddRead IsTaken MayLack made all old new =
+    (some : List VersionRow) × AreTaken IsTaken MayLack all some × (new ≡ old ++ map made some)

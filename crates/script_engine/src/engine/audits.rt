@@ -72,9 +72,9 @@ impl<S: Alter> Engine<S> {
             Err(refusal) => return Entry::unaudited(Err(refusal)),
         };
         let catalog = self.store.catalog();
-        let tables = self.tables.as_slice();
-        match answer_query(alloc, catalog, tables, &mut self.ended, &query) {
+        match answer_query(alloc, catalog, &mut self.tables, &mut self.ended, &query) {
             Ok(answer) => {
+                let tables = self.tables.as_slice();
                 let audit = audit_of(alloc, tables, self.ended.as_slice(), &query, &answer);
                 Entry {
                     result: Ok(Outcome::Answer(answer)),

@@ -6,7 +6,7 @@ ghost use Rattle.ended_versions.specs.Packed.{Hold};
 ghost use Rattle.period_core.specs.declared.version.VersionRow.{VersionRow as Version};
 ghost use Rattle.period_keys.specs.Current.{rows_by_key};
 ghost use Rattle.script_engine.specs.engine.Ended.{ended_in};
-ghost use Rattle.script_engine.specs.engine.Reading.{AddRead, positions_in, versions_in};
+ghost use Rattle.script_engine.specs.engine.Reading.{AddRead, MayBeUnread, versions_in};
 
 use crate::engine::indexed::positions_of_number;
 use crate::engine::reading::{Access, Selection, read};
@@ -41,9 +41,8 @@ pub fn read_chained<S: Selection>(
 ) -> Result<(), Memory>
     ensures read { (versions : List Version)
         → Hold (ended_in ended.old.items access.now.table) versions
-        → OnOk result (AddRead access.now
-        (positions_in (map rows_by_key tables.now) access.now.table)
-        (S.IsTaken selection.now) (S.MayLack selection.now) S.made
+        → OnOk result (AddRead (S.IsTaken selection.now)
+        (MayBeUnread access.now (S.MayLack selection.now)) S.made
         (versions_in (map rows_by_key tables.now) access.now.table versions)
         rows.old.items rows.new.items) }
     ensures same { ended.new.items ≡ ended.old.items }

@@ -109,7 +109,7 @@ pub fn lawful_plan(
     let Some(table) = of_number(tables, number) else {
         unreachable!()
     };
-    let plan = plan_change(alloc, table.rows(), action)?;
+    let plan = plan_change(alloc, table, action)?;
     // Each key is made once: the rows are judged by it, and then added by it.
     let keys = keys_of(alloc, table.rows().positions(), plan.added.as_slice())?;
     judge_plan(

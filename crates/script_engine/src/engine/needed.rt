@@ -1,7 +1,7 @@
 //! The rows that the table references of a query have to see: of the versions in memory those that
 //! can be part of a combined row that meets the conditions of their select. So a query whose
 //! conditions leave a range of keys looks at the rows with a key in that range alone. One that
-//! joins a few rows with a table by its key looks at the rows of their keys.
+//! joins a few rows with a later table by its key looks at the rows of their keys.
 
 ghost use Rattle.std.specs.Prelude.{◌≡◌, IfErr, IfOk, IfSome, OnOk, Some, length, map, min};
 ghost use Rattle.catalog_core.specs.declared.query.AnswerColumn.{AnswerColumn as Item};
@@ -16,22 +16,23 @@ ghost use Rattle.temporal_model.specs.Snapshot.{Equivalent};
 ghost use Rattle.version_store.specs.StoreState.{IsStoreRefusal};
 ghost use Rattle.script_engine.specs.Headline.{IsSequencedAnswer};
 ghost use Rattle.script_engine.specs.engine.Answering.{IsOfCatalog, columns_of};
-ghost use Rattle.script_engine.specs.engine.Needed.{AddNeeded, EndInRow, IsNeeded, IsNeededAfter};
-ghost use Rattle.script_engine.specs.engine.Needed.{IsNeededBy, IsPrunedAfter, SeeNeeded};
-ghost use Rattle.script_engine.specs.engine.Needed.{SeesWidth};
+ghost use Rattle.script_engine.specs.engine.Needed.{AddNeeded, ArePlaced, HaveRowFrom, IsNeeded};
+ghost use Rattle.script_engine.specs.engine.Needed.{IsNeededAfter, IsNeededBy, IsPrunedAfter};
+ghost use Rattle.script_engine.specs.engine.Needed.{SeeNeeded, SeesWidth};
 ghost use Rattle.script_engine.specs.engine.Stored.{RowsRepresent};
 
 use crate::engine::chained::read_chained;
 use crate::engine::conditions::Conditions;
 use crate::engine::indexed::positions_of_number;
+use crate::engine::prepared::rows_left;
 use crate::engine::reading::Access;
 use crate::engine::sequenced_queries::evaluate;
 use catalog_core::resolved::{Query, QueryReference, Tables};
 use catalog_core::{Catalog, Cond, TableDef, fits, is_value_column};
 use coalesce_core::coalesce;
 use ended_versions::EndedVersions;
-use period_core::{Answer, Items, Memory, PeriodRow, Refusal, Window};
-use period_keys::{KeyRange, TableIndex, range_of_key_after, range_of_key_within};
+use period_core::{Answer, Items, Memory, PeriodRow, Refusal, Value, Window};
+use period_keys::{KeyRange, RowConditions, RowRange, TableIndex, range_of_key_after};
 use std::alloc::Global;
 
 // ---- the width of rows
@@ -83,6 +84,50 @@ fn fixed_values(range: &KeyRange, positions: &[usize]) -> usize
     count
 }
 
+/// Whether rows are told by more than others: by more values of the key at these positions, or else
+/// by the columns of a reference, if the others are told by no value of either.
+fn is_narrower(rows: &RowRange, others: &RowRange, positions: &[usize]) -> bool {
+    let of_key = others.positions.as_slice() == positions;
+    let fixed = if of_key {
+        fixed_values(&others.range, positions)
+    } else {
+        0
+    };
+    if rows.positions.as_slice() == positions {
+        return fixed_values(&rows.range, positions) > fixed;
+    }
+    !rows.range.is_all() && of_key && fixed == 0
+}
+
+/// The conditions of a select on a row of its combined rows that have known values from the place
+/// `at` on. The row's values begin at `start`, and are `width` many.
+#[derive(Clone, Copy)]
+struct KnownConditions<'a> {
+    conjuncts: &'a [Cond],
+    known: &'a [Value],
+    at: usize,
+    start: usize,
+    width: usize,
+}
+
+impl RowConditions for KnownConditions<'_> {
+    ghost use Rattle.period_keys.specs.FixedKeys.{IsRangeAfter};
+
+    ghost IsRange = { λ these positions range. IsRangeAfter these.conjuncts.now these.known.now
+        these.at these.start these.width positions range };
+
+    fn range_at(&self, alloc: Global, positions: &[usize]) -> Result<KeyRange, Memory> {
+        let KnownConditions {
+            conjuncts,
+            known,
+            at,
+            start,
+            width,
+        } = *self;
+        range_of_key_after(alloc, conjuncts, known, at, start, width, positions)
+    }
+}
+
 /// Rows with the same snapshots as these, which were looked up so many times. After several times
 /// a row may have been found again.
 fn once_each(alloc: Global, rows: Vec<PeriodRow>, times: usize) -> Result<Vec<PeriodRow>, Memory>
@@ -94,49 +139,55 @@ fn once_each(alloc: Global, rows: Vec<PeriodRow>, times: usize) -> Result<Vec<Pe
     Ok(rows)
 }
 
-/// The rows of a table that are needed in the combined rows in which one of the rows `previous`
-/// comes right before theirs: the conditions leave a range of keys after each, through which they
-/// are looked up. None if that is more work than to read them once: if the rows `previous` are
-/// many, or those looked up; if the conditions alone fix as much of a key; or if all ended versions
-/// that the window sees would be read several times. The rows of the table have `width` values.
+/// The rows of a reference's table that are needed in the combined rows that have those of one of
+/// the rows `previous` from the place `at` on: the conditions leave a range of keys after each,
+/// through which they are looked up. None if that is more work than to read them once: if the rows
+/// `previous` are many, or those looked up; if the conditions alone fix as much of a key; or if all
+/// ended versions that the window sees would be read several times.
 fn looked_up(
     alloc: Global,
-    tables: &[TableIndex],
+    tables: &mut Vec<TableIndex>,
     ended: &mut Vec<EndedVersions>,
     conditions: &Conditions,
-    width: usize,
-    reference: &QueryReference,
+    at: usize,
     previous: &[PeriodRow],
 ) -> Result<Option<Vec<PeriodRow>>, Memory>
     ensures needed { IfOk result (λ found. IfSome found (λ rows. (history : History)
-        → RowsRepresent history (map rows_by_key tables.now) ended.old.items
-        → SeesWidth history reference.now width
-        → IsPrunedAfter (EndInRow previous.now) conditions.now.conjuncts.now conditions.now.start
-        (λ day. VisibleInHistory history day reference.now) rows.items)) }
+        → RowsRepresent history (map rows_by_key tables.old.items) ended.old.items
+        → SeesWidth history conditions.now.reference.now conditions.now.width
+        → IsPrunedAfter (HaveRowFrom previous.now at) conditions.now.conjuncts.now
+        conditions.now.start
+        (λ day. VisibleInHistory history day conditions.now.reference.now) rows.items)) }
+    ensures tables { tables.new.items ≡ tables.old.items }
     ensures same { ended.new.items ≡ ended.old.items }
 {
     if previous.len() > FEW {
         return Ok(None);
     }
-    let conjuncts = conditions.conjuncts;
-    let start = conditions.start;
-    let positions = positions_of_number(tables, reference.table);
-    let alone = range_of_key_within(alloc, conjuncts, start, width, positions)?;
-    let fixed = fixed_values(&alone, positions);
+    let Conditions {
+        reference,
+        conjuncts,
+        start,
+        width,
+    } = *conditions;
+    let alone = rows_left(alloc, tables, reference.table, conditions)?;
     let mut rows = Vec::new(alloc);
     for row in previous {
         let known = row.values.as_slice();
-        let Some(at) = start.checked_sub(known.len()) else {
-            return Ok(None);
+        let after = KnownConditions {
+            conjuncts,
+            known,
+            at,
+            start,
+            width,
         };
-        let range = range_of_key_after(alloc, conjuncts, known, at, start, width, positions)?;
-        let is_narrower = fixed_values(&range, positions) > fixed;
-        let access = Access::of(reference, range);
+        let left = rows_left(alloc, tables, reference.table, &after)?;
+        let tables = tables.as_slice();
+        let positions = positions_of_number(tables, reference.table);
+        let is_few = rows.len() <= MANY && is_narrower(&left, &alone, positions);
+        let access = Access::of(reference, left);
         let is_once = reference.window == Window::Now || previous.len() == 1;
-        if rows.len() > MANY || !is_narrower {
-            return Ok(None);
-        }
-        if !is_once && access.ended_key(positions).is_none() {
+        if !is_few || !is_once && access.ended_key(positions).is_none() {
             return Ok(None);
         }
         read_chained(alloc, tables, ended, &access, conditions, &mut rows)?;
@@ -146,62 +197,70 @@ fn looked_up(
 
 // ---- the references of a query
 
-/// The rows that a table reference has to see, if a combined row has the values of its row from a
-/// position on: those of the keys in the range that the conditions leave. The rows of its table
-/// have `width` values.
+/// The rows that a table reference has to see: those that the conditions leave.
 fn needed_by(
     alloc: Global,
-    tables: &[TableIndex],
+    tables: &mut Vec<TableIndex>,
     ended: &mut Vec<EndedVersions>,
     conditions: &Conditions,
-    width: usize,
-    reference: &QueryReference,
 ) -> Result<Vec<PeriodRow>, Memory>
     ensures needed { IfOk result (λ rows. (history : History)
-        → RowsRepresent history (map rows_by_key tables.now) ended.old.items
-        → SeesWidth history reference.now width
-        → IsNeeded history conditions.now.conjuncts.now conditions.now.start reference.now
-        rows.items) }
+        → RowsRepresent history (map rows_by_key tables.old.items) ended.old.items
+        → SeesWidth history conditions.now.reference.now conditions.now.width
+        → IsNeeded history conditions.now.conjuncts.now conditions.now.start
+        conditions.now.reference.now rows.items) }
+    ensures tables { tables.new.items ≡ tables.old.items }
     ensures same { ended.new.items ≡ ended.old.items }
 {
-    let conjuncts = conditions.conjuncts;
-    let start = conditions.start;
-    let positions = positions_of_number(tables, reference.table);
-    let range = range_of_key_within(alloc, conjuncts, start, width, positions)?;
-    let access = Access::of(reference, range);
+    let reference = conditions.reference;
+    let left = rows_left(alloc, tables, reference.table, conditions)?;
+    let access = Access::of(reference, left);
+    let tables = tables.as_slice();
     let mut rows = Vec::new(alloc);
     read_chained(alloc, tables, ended, &access, conditions, &mut rows)?;
     Ok(rows)
 }
 
+/// The lists that the first references of a select see, in their order, and the places at which the
+/// values of each begin in a combined row.
+#[derive(Drop)]
+struct PlacedLists {
+    places: Vec<usize>,
+    lists: Vec<Items<PeriodRow>>,
+}
+
 /// Rows that a table reference has to see, if the references before it in its select see these
-/// lists: those that are looked up after the last list, or else those that it has to see whatever
-/// comes before them. The rows of its table have `width` values.
+/// lists: those that are looked up after one of the lists, the last that leaves few, or else those
+/// that it has to see whatever comes before them.
 fn needed_after(
     alloc: Global,
-    tables: &[TableIndex],
+    tables: &mut Vec<TableIndex>,
     ended: &mut Vec<EndedVersions>,
     conditions: &Conditions,
-    width: usize,
-    reference: &QueryReference,
-    earlier: &[Items<PeriodRow>],
+    earlier: &PlacedLists,
 ) -> Result<Vec<PeriodRow>, Memory>
     ensures needed { IfOk result (λ rows. (history : History)
-        → RowsRepresent history (map rows_by_key tables.now) ended.old.items
-        → SeesWidth history reference.now width
-        → IsNeededAfter history earlier.now conditions.now.conjuncts.now conditions.now.start
-        reference.now rows.items) }
+        → RowsRepresent history (map rows_by_key tables.old.items) ended.old.items
+        → SeesWidth history conditions.now.reference.now conditions.now.width
+        → ArePlaced earlier.now.lists.items earlier.now.places.items conditions.now.start
+        → IsNeededAfter history earlier.now.lists.items conditions.now.conjuncts.now
+        conditions.now.start conditions.now.reference.now rows.items) }
+    ensures tables { tables.new.items ≡ tables.old.items }
     ensures same { ended.new.items ≡ ended.old.items }
 {
-    let Some(last) = earlier.last() else {
-        return needed_by(alloc, tables, ended, conditions, width, reference);
-    };
-    let previous = last.as_slice();
-    let found = looked_up(alloc, tables, ended, conditions, width, reference, previous)?;
-    match found {
-        Some(rows) => Ok(rows),
-        None => needed_by(alloc, tables, ended, conditions, width, reference),
+    let places = earlier.places.as_slice();
+    for i in 0..places.len() {
+        let last = places.len() - 1 - i;
+        let Some(previous) = earlier.lists.get(last) else {
+            continue;
+        };
+        let rows = previous.as_slice();
+        let found = looked_up(alloc, tables, ended, conditions, places[last], rows)?;
+        if let Some(rows) = found {
+            return Ok(rows);
+        }
     }
+    needed_by(alloc, tables, ended, conditions)
 }
 
 /// Adds to lists, which those before them in a select see, what each of these references has to
@@ -209,58 +268,69 @@ fn needed_after(
 fn push_needed_by_each(
     alloc: Global,
     catalog: &Catalog,
-    tables: &[TableIndex],
+    tables: &mut Vec<TableIndex>,
     ended: &mut Vec<EndedVersions>,
     conjuncts: &[Cond],
     start: usize,
     references: &[QueryReference],
-    lists: &mut Vec<Items<PeriodRow>>,
+    seen: &mut PlacedLists,
 ) -> Result<(), Memory>
     ensures needed { (history : History) → (catalog.now.tables ≡ catalog_of history)
-        → RowsRepresent history (map rows_by_key tables.now) ended.old.items
+        → RowsRepresent history (map rows_by_key tables.old.items) ended.old.items
+        → ArePlaced seen.old.lists.items seen.old.places.items start
         → OnOk result (AddNeeded
-        (SeeNeeded history conjuncts.now lists.old.items start references.now)
-        lists.old.items lists.new.items) }
+        (SeeNeeded history conjuncts.now seen.old.lists.items start references.now)
+        seen.old.lists.items seen.new.lists.items) }
+    ensures tables { tables.new.items ≡ tables.old.items }
     ensures same { ended.new.items ≡ ended.old.items }
 {
     let [reference, more @ ..] = references else {
         return Ok(());
     };
-    let conditions = Conditions { conjuncts, start };
     let width = width_of_number(catalog, reference.table);
-    let earlier = lists.as_slice();
-    let rows = needed_after(alloc, tables, ended, &conditions, width, reference, earlier)?;
-    lists.push(Items::from_vec(rows))?;
+    let conditions = Conditions {
+        reference,
+        conjuncts,
+        start,
+        width,
+    };
+    let rows = needed_after(alloc, tables, ended, &conditions, seen)?;
+    seen.places.push(start)?;
+    seen.lists.push(Items::from_vec(rows))?;
     let Some(next) = start.checked_add(width) else {
         return Err(Memory);
     };
-    push_needed_by_each(alloc, catalog, tables, ended, conjuncts, next, more, lists)
+    push_needed_by_each(alloc, catalog, tables, ended, conjuncts, next, more, seen)
 }
 
 /// Adds to lists what each of the references of a query has to see, in the order of the text.
 fn push_needed_tables(
     alloc: Global,
     catalog: &Catalog,
-    tables: &[TableIndex],
+    tables: &mut Vec<TableIndex>,
     ended: &mut Vec<EndedVersions>,
     query: &Query,
     lists: &mut Vec<Items<PeriodRow>>,
 ) -> Result<(), Memory>
     ensures needed { (history : History) → (catalog.now.tables ≡ catalog_of history)
-        → RowsRepresent history (map rows_by_key tables.now) ended.old.items
+        → RowsRepresent history (map rows_by_key tables.old.items) ended.old.items
         → OnOk result (AddNeeded (IsNeededBy history (plain_query query.now))
         lists.old.items lists.new.items) }
+    ensures tables { tables.new.items ≡ tables.old.items }
     ensures same { ended.new.items ≡ ended.old.items }
 {
     match query {
         Query::Select(select) => {
             let conjuncts = select.conjuncts.as_slice();
             let references = select.references.as_slice();
-            let mut seen = Vec::new(alloc);
+            let mut seen = PlacedLists {
+                places: Vec::new(alloc),
+                lists: Vec::new(alloc),
+            };
             push_needed_by_each(
                 alloc, catalog, tables, ended, conjuncts, 0, references, &mut seen,
             )?;
-            lists.append(&mut seen)?;
+            lists.append(&mut seen.lists)?;
             Ok(())
         }
         Query::Combined(_, left, right) => {
@@ -274,14 +344,15 @@ fn push_needed_tables(
 fn needed_tables(
     alloc: Global,
     catalog: &Catalog,
-    tables: &[TableIndex],
+    tables: &mut Vec<TableIndex>,
     ended: &mut Vec<EndedVersions>,
     query: &Query,
 ) -> Result<Tables, Memory>
     ensures needed { IfOk result (λ needed. (history : History)
         → (catalog.now.tables ≡ catalog_of history)
-        → RowsRepresent history (map rows_by_key tables.now) ended.old.items
+        → RowsRepresent history (map rows_by_key tables.old.items) ended.old.items
         → IsNeededBy history (plain_query query.now) needed) }
+    ensures tables { tables.new.items ≡ tables.old.items }
     ensures same { ended.new.items ≡ ended.old.items }
 {
     let mut lists = Vec::new(alloc);
@@ -296,20 +367,21 @@ fn needed_tables(
 pub fn answer_query(
     alloc: Global,
     catalog: &Catalog,
-    tables: &[TableIndex],
+    tables: &mut Vec<TableIndex>,
     ended: &mut Vec<EndedVersions>,
     query: &Query,
 ) -> Result<Answer, Refusal>
     ensures right { (history : History) → (catalog.now.tables ≡ catalog_of history)
-        → RowsRepresent history (map rows_by_key tables.now) ended.old.items
+        → RowsRepresent history (map rows_by_key tables.old.items) ended.old.items
         → IfOk result (IsSequencedAnswer (InAnswerOn history (plain_query query.now))) }
     ensures why { (history : History) → (catalog.now.tables ≡ catalog_of history)
-        → RowsRepresent history (map rows_by_key tables.now) ended.old.items
+        → RowsRepresent history (map rows_by_key tables.old.items) ended.old.items
         → IsOfCatalog catalog.now.tables (plain_query query.now)
         → IfErr result (λ refusal. refusal ≡ OutOfMemory) }
     ensures columns { IfOk result (λ answer. answer.columns
         ≡ map (λ (item : Item). item.name) (columns_of (plain_query query.now))) }
     ensures named { IfErr result IsStoreRefusal }
+    ensures tables { tables.new.items ≡ tables.old.items }
     ensures same { ended.new.items ≡ ended.old.items }
 {
     let needed = needed_tables(alloc, catalog, tables, ended, query)?;

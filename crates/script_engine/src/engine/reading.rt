@@ -1,49 +1,48 @@
-//! Versions read from memory: of a table's current versions, and of those that have ended, the ones
-//! that a window sees and whose keys are in a range. A selection takes some, and makes a row of
-//! each.
+//! Versions read from memory: of a table's current versions the ones whose values at some positions
+//! are in a range, and of those that have ended the ones that a window sees. A selection takes
+//! some, and makes a row of each.
 
-ghost use Rattle.std.specs.Prelude.{◌≡◌, ℕ, IfOk, IfSome, List, OnOk, false, map};
-ghost use Rattle.std.specs.Prelude.{reverse, true};
+ghost use Rattle.std.specs.Prelude.{◌≡◌, IfOk, IfSome, List, OnOk, false, map, reverse, true};
 ghost use Rattle.ended_versions.specs.Packed.{Hold};
 ghost use Rattle.period_core.specs.declared.version.VersionRow.{VersionRow as Version};
 ghost use Rattle.period_keys.specs.Current.{rows_by_key};
 ghost use Rattle.period_keys.specs.Versions.{has_key_in, version_key};
 ghost use Rattle.script_engine.specs.engine.Ended.{ended_in};
 ghost use Rattle.script_engine.specs.engine.InMemory.{rows_in};
-ghost use Rattle.script_engine.specs.engine.Reading.{AddRead, AreTaken, IsRead, MayBeUnread};
-ghost use Rattle.script_engine.specs.engine.Reading.{positions_in, versions_in};
+ghost use Rattle.script_engine.specs.engine.Reading.{AddRead, AreTaken, IsSeen, MayBeUnread};
+ghost use Rattle.script_engine.specs.engine.Reading.{versions_in};
 
-use crate::engine::indexed::{positions_of_number, rows_of_number};
+use crate::engine::indexed::positions_of_number;
 use catalog_core::of_number;
 use catalog_core::resolved::QueryReference;
 use ended_versions::EndedVersions;
 use period_core::{Memory, Value, VersionRow, Window};
-use period_keys::{CurrentRows, KeyRange, TableIndex};
+use period_keys::{CurrentRows, RowRange, TableIndex};
 use std::alloc::Global;
 
 /// The versions of a table that a reference of a query has to read, as its conditions say: of those
-/// that a window sees, the ones whose keys are in a range.
+/// that a window sees, the ones whose values at some positions are in a range.
 #[derive(Drop)]
 pub struct Access {
     /// The window.
     pub window: Window,
     /// The table's number. If no table has it, there are no versions.
     pub table: u8,
-    /// The range of keys.
-    pub range: KeyRange,
+    /// The positions and the range.
+    pub rows: RowRange,
 }
 
 impl Access {
     /// Of the table and the window of a reference.
-    pub fn of(reference: &QueryReference, range: KeyRange) -> Access
+    pub fn of(reference: &QueryReference, rows: RowRange) -> Access
         ensures window { result.window ≡ reference.now.window }
         ensures table { result.table ≡ reference.now.table }
-        ensures range { result.range ≡ range }
+        ensures rows { result.rows ≡ rows }
     {
         Access {
             window: reference.window,
             table: reference.table,
-            range,
+            rows,
         }
     }
 
@@ -51,17 +50,18 @@ impl Access {
     /// the window sees the current versions alone.
     pub fn ended_key(&self, positions: &[usize]) -> Option<&[Value]>
         ensures { IfSome result (λ key. (version : Version)
-            → has_key_in positions.now self.now.range version ≡ true
+            → has_key_in self.now.rows.positions self.now.rows.range version ≡ true
             → version_key positions.now version ≡ key.now) }
     {
         match self.window {
             Window::Now => None,
-            _ => self.range.whole_key(positions),
+            _ => self.rows.whole_key(positions),
         }
     }
 }
 
-/// A choice of versions, of those that an access leaves, and the row that is made of each.
+/// A choice of versions, of those that an access leaves, and the row that is made of each. It asks
+/// the window itself, since current versions are given to it that the window does not see.
 pub trait Selection {
     ghost use Rattle.period_core.specs.declared.version.VersionRow.{VersionRow as Version};
 
@@ -93,29 +93,18 @@ pub trait Selection {
 
 // ---- current versions
 
-/// Whether the window sees the version, and the selection takes it.
-fn is_read<S: Selection>(access: &Access, selection: &S, version: &VersionRow) -> bool
-    ensures read { result ≡ true → IsRead access.now (S.IsTaken selection.now) version.now }
-    ensures unread { result ≡ false → (positions : List ℕ)
-        → MayBeUnread access.now positions (S.MayLack selection.now) version.now }
-{
-    access.window.sees(version.from, version.to) && selection.takes(version)
-}
-
 /// Adds the rows of some of these versions: no values are copied but theirs.
 fn read_versions<S: Selection>(
     alloc: Global,
-    access: &Access,
     selection: &S,
     versions: &[VersionRow],
     rows: &mut Vec<S::Row>,
 ) -> Result<(), Memory>
-    ensures { (positions : List ℕ) → OnOk result (AddRead access.now positions
-        (S.IsTaken selection.now) (S.MayLack selection.now) S.made
+    ensures { OnOk result (AddRead (S.IsTaken selection.now) (S.MayLack selection.now) S.made
         versions.now rows.old.items rows.new.items) }
 {
     for version in versions {
-        if is_read(access, selection, version) {
+        if selection.takes(version) {
             rows.push(S::copied(alloc, version)?)?;
         }
     }
@@ -125,35 +114,34 @@ fn read_versions<S: Selection>(
 /// Adds the rows of the current versions of all keys.
 fn read_all<S: Selection>(
     alloc: Global,
-    access: &Access,
     selection: &S,
     current: &CurrentRows,
     rows: &mut Vec<S::Row>,
 ) -> Result<(), Memory>
-    ensures { OnOk result (AddRead access.now current.now.positions
-        (S.IsTaken selection.now) (S.MayLack selection.now) S.made
+    ensures { OnOk result (AddRead (S.IsTaken selection.now) (S.MayLack selection.now) S.made
         current.now.rows rows.old.items rows.new.items) }
 {
     for group in current.groups() {
-        read_versions(alloc, access, selection, group.as_slice(), rows)?;
+        read_versions(alloc, selection, group.as_slice(), rows)?;
     }
     Ok(())
 }
 
-/// Adds the rows of the current versions of the keys in the range: no other key is looked at.
+/// Adds the rows of the current versions in the range: with its key or a secondary index, only the
+/// keys that may have such versions are looked at.
 fn read_within<S: Selection>(
     alloc: Global,
     access: &Access,
     selection: &S,
-    current: &CurrentRows,
+    table: &TableIndex,
     rows: &mut Vec<S::Row>,
 ) -> Result<(), Memory>
-    ensures { OnOk result (AddRead access.now current.now.positions
-        (S.IsTaken selection.now) (S.MayLack selection.now) S.made
-        current.now.rows rows.old.items rows.new.items) }
+    ensures { OnOk result (AddRead (S.IsTaken selection.now)
+        (MayBeUnread access.now (S.MayLack selection.now)) S.made
+        table.now.rows rows.old.items rows.new.items) }
 {
-    for group in current.groups_within(alloc, &access.range)? {
-        read_versions(alloc, access, selection, group.as_slice(), rows)?;
+    for group in table.groups_of(alloc, &access.rows)? {
+        read_versions(alloc, selection, group.as_slice(), rows)?;
     }
     Ok(())
 }
@@ -166,24 +154,23 @@ fn read_current<S: Selection>(
     selection: &S,
     rows: &mut Vec<S::Row>,
 ) -> Result<(), Memory>
-    ensures { OnOk result (AddRead access.now
-        (positions_in (map rows_by_key tables.now) access.now.table)
-        (S.IsTaken selection.now) (S.MayLack selection.now) S.made
+    ensures { OnOk result (AddRead (S.IsTaken selection.now)
+        (MayBeUnread access.now (S.MayLack selection.now)) S.made
         (rows_in (map rows_by_key tables.now) access.now.table) rows.old.items rows.new.items) }
 {
-    let Some(current) = rows_of_number(tables, access.table) else {
+    let Some(table) = of_number(tables, access.table) else {
         return Ok(());
     };
-    if access.range.is_all() {
-        return read_all(alloc, access, selection, current, rows);
+    if access.rows.range.is_all() {
+        return read_all(alloc, selection, table.rows(), rows);
     }
-    read_within(alloc, access, selection, current, rows)
+    read_within(alloc, access, selection, table, rows)
 }
 
 // ---- ended versions
 
-/// The versions of a list that the window sees, the last to end first, without some whose keys are
-/// not in the range.
+/// The versions of a list that the window sees, the last to end first, without some that are not in
+/// the range. The key of the table has these positions.
 fn ended_seen(
     alloc: Global,
     access: &Access,
@@ -191,8 +178,8 @@ fn ended_seen(
     list: &EndedVersions,
 ) -> Result<Vec<VersionRow>, Memory>
     ensures { (versions : List Version) → Hold list.now versions → IfOk result (λ seen. AreTaken
-        (IsRead access.now (λ version. Unit {0}))
-        (MayBeUnread access.now positions.now (λ version. ⊥)) (reverse versions) seen.items) }
+        (IsSeen access.now) (MayBeUnread access.now (λ version. ⊥))
+        (reverse versions) seen.items) }
 {
     match access.ended_key(positions) {
         Some(key) => list.seen_of_key(alloc, access.window, positions, key),
@@ -210,8 +197,8 @@ fn read_list<S: Selection>(
     rows: &mut Vec<S::Row>,
 ) -> Result<(), Memory>
     ensures { (versions : List Version) → Hold list.now versions
-        → OnOk result (AddRead access.now positions.now
-        (S.IsTaken selection.now) (S.MayLack selection.now) S.made
+        → OnOk result (AddRead (S.IsTaken selection.now)
+        (MayBeUnread access.now (S.MayLack selection.now)) S.made
         (reverse versions) rows.old.items rows.new.items) }
 {
     for version in ended_seen(alloc, access, positions, list)? {
@@ -235,9 +222,8 @@ pub fn read<S: Selection>(
     rows: &mut Vec<S::Row>,
 ) -> Result<(), Memory>
     ensures { (versions : List Version) → Hold (ended_in ended.now access.now.table) versions
-        → OnOk result (AddRead access.now
-        (positions_in (map rows_by_key tables.now) access.now.table)
-        (S.IsTaken selection.now) (S.MayLack selection.now) S.made
+        → OnOk result (AddRead (S.IsTaken selection.now)
+        (MayBeUnread access.now (S.MayLack selection.now)) S.made
         (versions_in (map rows_by_key tables.now) access.now.table versions)
         rows.old.items rows.new.items) }
 {

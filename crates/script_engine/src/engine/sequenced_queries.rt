@@ -20,7 +20,7 @@ use catalog_core::resolved::{Query, QueryReference, Tables};
 use coalesce_core::{coalesce, witnesses};
 use ended_versions::EndedVersions;
 use period_core::{Answer, Items, Memory, PeriodRow, Text};
-use period_keys::{KeyRange, TableIndex};
+use period_keys::{RowRange, TableIndex};
 use sequenced_ops::run_query;
 use std::alloc::Global;
 
@@ -38,10 +38,12 @@ fn seen_by(
         → RowsRepresent history (map rows_by_key tables.now) ended.now
         → SeesRows history reference.now rows) }
 {
-    let access = Access::of(reference, KeyRange::all(alloc));
+    let access = Access::of(reference, RowRange::all(alloc));
     let unconditional = Conditions {
+        reference,
         conjuncts: &[],
         start: 0,
+        width: 0,
     };
     let mut rows = Vec::new(alloc);
     read(alloc, tables, ended, &access, &unconditional, &mut rows)?;

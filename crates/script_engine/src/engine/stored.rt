@@ -11,12 +11,12 @@ ghost use Rattle.script_engine.specs.engine.InMemory.{HaveCurrentRows};
 ghost use Rattle.script_engine.specs.engine.VersionLists.{AreShownIn};
 
 use crate::engine::chained::read_chained;
-use crate::engine::indexed::positions_of_number;
+use crate::engine::prepared::rows_left;
 use crate::engine::reading::{Access, Selection};
 use catalog_core::{Stored, meets};
 use ended_versions::EndedVersions;
 use period_core::{Memory, VersionRow};
-use period_keys::{KeyRange, TableIndex, range_of_key};
+use period_keys::{RowRange, TableIndex};
 use std::alloc::Global;
 
 impl Selection for Stored {
@@ -44,14 +44,16 @@ impl Selection for Stored {
     }
 }
 
-/// A range of keys that has the key at these positions of each version that the query shows.
-fn range_of(alloc: Global, query: &Stored, positions: &[usize]) -> Result<KeyRange, Memory>
-    ensures { IfOk result (λ range. (version : Version)
-        → is_shown query.now version ≡ true → has_key_in positions.now range version ≡ true) }
+/// The rows of its table that a query's condition leaves: each version that it shows is one of
+/// them.
+fn rows_of(alloc: Global, tables: &mut Vec<TableIndex>, query: &Stored) -> Result<RowRange, Memory>
+    ensures left { IfOk result (λ rows. (version : Version) → is_shown query.now version ≡ true
+        → has_key_in rows.positions rows.range version ≡ true) }
+    ensures same { tables.new.items ≡ tables.old.items }
 {
     match &query.condition {
-        Some(condition) => range_of_key(alloc, condition, positions),
-        None => Ok(KeyRange::all(alloc)),
+        Some(condition) => rows_left(alloc, tables, query.table, condition),
+        None => Ok(RowRange::all(alloc)),
     }
 }
 
@@ -60,24 +62,23 @@ fn range_of(alloc: Global, query: &Stored, positions: &[usize]) -> Result<KeyRan
 /// if that may help.
 pub fn shown_by(
     alloc: Global,
-    tables: &[TableIndex],
+    tables: &mut Vec<TableIndex>,
     ended: &mut Vec<EndedVersions>,
     query: &Stored,
 ) -> Result<Vec<VersionRow>, Memory>
     ensures right { IfOk result (λ rows. (c : Contents)
-        → HaveCurrentRows c (map rows_by_key tables.now) → HaveEnded c ended.old.items
+        → HaveCurrentRows c (map rows_by_key tables.old.items) → HaveEnded c ended.old.items
         → AreShownIn c query.now rows.items) }
+    ensures tables { tables.new.items ≡ tables.old.items }
     ensures same { ended.new.items ≡ ended.old.items }
 {
-    let positions = positions_of_number(tables, query.table);
-    let range = range_of(alloc, query, positions)?;
     let access = Access {
         window: query.window,
         table: query.table,
-        range,
+        rows: rows_of(alloc, tables, query)?,
     };
     let mut shown = Vec::new(alloc);
-    read_chained(alloc, tables, ended, &access, query, &mut shown)?;
+    read_chained(alloc, tables.as_slice(), ended, &access, query, &mut shown)?;
     shown.sort()?;
     Ok(shown)
 }

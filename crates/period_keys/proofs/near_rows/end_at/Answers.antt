@@ -1,6 +1,5 @@
 use Rattle.std.proofs.Common.{◌≡◌, map, refl}
 use Rattle.period_core.specs.declared.period.Period.{Period}
-use Rattle.period_core.specs.declared.version.VersionRow.{VersionRow}
 use Rattle.period_keys.specs.declared.placed_period.PlacedPeriod.{PlacedPeriod}
 use Rattle.period_keys.specs.Keys.{IsWithin}
 use Rattle.period_keys.specs.Versions.{period_of}

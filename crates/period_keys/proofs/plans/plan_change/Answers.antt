@@ -22,4 +22,4 @@ over_rows (Ok plan) given action rows is plans = record {
 over_rows (Err refusal) given action rows is plans = plans
 
 pub returns-in-Insert-clause-plan : goal.returns-in-Insert-clause-plan
-returns-in-Insert-clause-plan c = over_rows c.plan_given.result c.in-Insert.given c.args.action c.args.current.now.rows c.in-Insert.is c.plan_given.ensures.plan
+returns-in-Insert-clause-plan c = over_rows c.plan_given.result c.in-Insert.given c.args.action c.args.table.now.rows c.in-Insert.is c.plan_given.ensures.plan

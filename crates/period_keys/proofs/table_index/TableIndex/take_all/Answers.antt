@@ -10,6 +10,7 @@ use Rattle.period_keys.specs.PeriodIndexes.{EachIndexes}
 use Rattle.period_keys.specs.TableRows.{TableRows}
 use Rattle.period_keys.specs.Versions.{version_key}
 use Rattle.period_keys.proofs.Partly.{each_after_taken, written_back}
+use Rattle.period_keys.proofs.RowsWithin.{entries_left}
 use Rattle.period_keys.proofs.table_index.TableIndex.take_all.Goals as goal
 
 -- the keys of the rows are the keys of their versions
@@ -31,7 +32,9 @@ invariant_of-self c =
     let given : List PeriodIndex = c.as_mut_slice.result.now in
     let new : List PeriodIndex = c.take_from_each.new.indexes in
     let (rest, there) = c.requires.there in
-    let moved : IsPermutation old (first ++ rest) = subst (λ (t : TableRows). IsPermutation t.rows (first ++ rest)) (sym c.self.view_is) there in
-    subst (EachIndexes (map row_of c.take_all.new.self.rows)) (sym (written_back c.self.inside.indexes.len items given new c.as_mut_slice.ensures.value c.as_mut_slice.ensures.len c.take_from_each.ensures.same))
-    (each_after_taken old c.take_all.new.self.rows first rest rows given new moved (c.take_all.ensures.rows rest moved) (sym c.requires.rows) c.take_from_each.ensures.rows
-    (subst (EachIndexes (map row_of old)) (sym c.as_mut_slice.ensures.value) c.self.invariant))
+    let moved : IsPermutation old (first ++ rest) = subst (λ (t : TableRows). IsPermutation t.rows (first ++ rest)) (sym c.self.view_is) there in (
+      subst (EachIndexes (map row_of c.take_all.new.self.rows)) (sym (written_back c.self.inside.indexes.len items given new c.as_mut_slice.ensures.value c.as_mut_slice.ensures.len c.take_from_each.ensures.same))
+          (each_after_taken old c.take_all.new.self.rows first rest rows given new moved (c.take_all.ensures.rows rest moved) (sym c.requires.rows) c.take_from_each.ensures.rows
+          (subst (EachIndexes (map row_of old)) (sym c.as_mut_slice.ensures.value) c.self.invariant.0)),
+      entries_left c.self.inside.rows.positions c.take_all.new.self.positions old c.take_all.new.self.rows first rest c.self.inside.secondary.items c.take_all.ensures.same moved (c.take_all.ensures.rows rest moved) c.self.invariant.1,
+    )

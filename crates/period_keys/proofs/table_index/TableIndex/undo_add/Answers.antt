@@ -8,6 +8,7 @@ use Rattle.period_keys.specs.PeriodIndexes.{EachIndexes}
 use Rattle.period_keys.specs.TableRows.{TableRows}
 use Rattle.period_keys.specs.Versions.{begun}
 use Rattle.period_keys.proofs.Partly.{begun_rows, each_after_taken, written_back}
+use Rattle.period_keys.proofs.RowsWithin.{entries_left}
 use Rattle.period_keys.proofs.table_index.TableIndex.undo_add.Goals as goal
 
 pub invariant_of-self : goal.invariant_of-self
@@ -19,7 +20,9 @@ invariant_of-self c =
     let given : List PeriodIndex = c.as_mut_slice.result.now in
     let new : List PeriodIndex = c.take_from_each.new.indexes in
     let (rest, there) = c.requires.there in
-    let moved : IsPermutation old (first ++ rest) = subst (λ (t : TableRows). IsPermutation t.rows (first ++ rest)) (sym c.self.view_is) there in
-    subst (EachIndexes (map row_of c.undo_add.new.self.rows)) (sym (written_back c.self.inside.indexes.len items given new c.as_mut_slice.ensures.value c.as_mut_slice.ensures.len c.take_from_each.ensures.same))
-    (each_after_taken old c.undo_add.new.self.rows first rest rows given new moved (c.undo_add.ensures.rows rest moved) (begun_rows c.args.moment rows) c.take_from_each.ensures.rows
-    (subst (EachIndexes (map row_of old)) (sym c.as_mut_slice.ensures.value) c.self.invariant))
+    let moved : IsPermutation old (first ++ rest) = subst (λ (t : TableRows). IsPermutation t.rows (first ++ rest)) (sym c.self.view_is) there in (
+      subst (EachIndexes (map row_of c.undo_add.new.self.rows)) (sym (written_back c.self.inside.indexes.len items given new c.as_mut_slice.ensures.value c.as_mut_slice.ensures.len c.take_from_each.ensures.same))
+          (each_after_taken old c.undo_add.new.self.rows first rest rows given new moved (c.undo_add.ensures.rows rest moved) (begun_rows c.args.moment rows) c.take_from_each.ensures.rows
+          (subst (EachIndexes (map row_of old)) (sym c.as_mut_slice.ensures.value) c.self.invariant.0)),
+      entries_left c.self.inside.rows.positions c.undo_add.new.self.positions old c.undo_add.new.self.rows first rest c.self.inside.secondary.items c.undo_add.ensures.same moved (c.undo_add.ensures.rows rest moved) c.self.invariant.1,
+    )

@@ -1,4 +1,4 @@
-use Rattle.std.proofs.Common.{◌≡◌, ◌∙◌, List, ap, inl, map, refl, subst, sym}
+use Rattle.std.proofs.Common.{◌≡◌, ◌∙◌, List, ap, ap₂, inl, map, refl, subst, sym}
 use Rattle.std.proofs.lemmas.Result.{err_from_is_err_and}
 use Rattle.period_core.specs.Leasts.{MayAnswer, NoneApplies}
 use Rattle.sql_statements.specs.Plain.{plain_query}
@@ -27,11 +27,11 @@ returns-clause-step g c usable history kept =
     let query = resolved.plain_query c.in_ok-query.query in
     let old : EngineState g.row.S.Denot = c.args.self.now in
     let catalog : c.catalog.result.now ≡ old.catalog = c.catalog.ensures ∙ ap (λ (e : EngineState g.row.S.Denot). e.catalog) c.self.view_is in
-    let new : EngineState g.row.S.Denot = engine_of c.self.inside.store (map rows_by_key c.self.inside.tables.items) c.answer_query.new.ended.items in
-    let same : new ≡ old = ap (engine_of c.self.inside.store (map rows_by_key c.self.inside.tables.items)) c.answer_query.ensures.same ∙ c.self.view_is in
+    let new : EngineState g.row.S.Denot = engine_of c.self.inside.store (map rows_by_key c.answer_query.new.tables.items) c.answer_query.new.ended.items in
+    let same : new ≡ old = ap₂ (λ ts es. engine_of c.self.inside.store (map rows_by_key ts) es) c.answer_query.ensures.tables c.answer_query.ensures.same ∙ c.self.view_is in
     let rows =
-    handed_rows g.S.Store history old kept (map rows_by_key c.as_slice-tables.result.now) c.self.inside.ended.items
-    (ap (map rows_by_key) c.as_slice-tables.ensures.value ∙ ap (λ (e : EngineState g.row.S.Denot). e.tables) c.self.view_is)
+    handed_rows g.S.Store history old kept (map rows_by_key c.self.inside.tables.items) c.self.inside.ended.items
+    (ap (λ (e : EngineState g.row.S.Denot). e.tables) c.self.view_is)
     (ap (λ (e : EngineState g.row.S.Denot). e.ended) c.self.view_is) in
     let known = handed_catalog g.S.Store history old kept c.catalog-catalog.result.now (c.catalog-catalog.ensures ∙ ap (λ (e : EngineState g.row.S.Denot). e.catalog) c.self.view_is) in
     answered_step g.S.Store history old asked kept new query c.in_ok-answer.answer
@@ -46,8 +46,8 @@ returns-in_err-answer-clause-step g c usable history kept =
     let s : Statement = statement.sequenced asked in
     let old : EngineState g.row.S.Denot = c.args.self.now in
     let catalog : c.catalog.result.now ≡ old.catalog = c.catalog.ensures ∙ ap (λ (e : EngineState g.row.S.Denot). e.catalog) c.self.view_is in
-    let new : EngineState g.row.S.Denot = engine_of c.self.inside.store (map rows_by_key c.self.inside.tables.items) c.answer_query.new.ended.items in
-    let same : new ≡ old = ap (engine_of c.self.inside.store (map rows_by_key c.self.inside.tables.items)) c.answer_query.ensures.same ∙ c.self.view_is in
+    let new : EngineState g.row.S.Denot = engine_of c.self.inside.store (map rows_by_key c.answer_query.new.tables.items) c.answer_query.new.ended.items in
+    let same : new ≡ old = ap₂ (λ ts es. engine_of c.self.inside.store (map rows_by_key ts) es) c.answer_query.ensures.tables c.answer_query.ensures.same ∙ c.self.view_is in
     failed_answer g.S.Store history old asked kept new c.in_err-answer.field-0.0
     (subst (λ (k : Catalog). NoneApplies (Holds (query_conditions k.tables s))) catalog c.in_ok-query.ensures.sound)
     (has_the_same g.S.Store history old kept new same) c.in_err-answer.ensures.named)
@@ -66,10 +66,10 @@ returns-in_err-answer-clause-queries g c usable history kept =
     let s : Statement = statement.sequenced asked in
     let query = resolved.plain_query c.in_ok-query.query in
     let old : EngineState g.row.S.Denot = c.args.self.now in
-    let new : EngineState g.row.S.Denot = engine_of c.self.inside.store (map rows_by_key c.self.inside.tables.items) c.answer_query.new.ended.items in
+    let new : EngineState g.row.S.Denot = engine_of c.self.inside.store (map rows_by_key c.answer_query.new.tables.items) c.answer_query.new.ended.items in
     let rows =
-    handed_rows g.S.Store history old kept (map rows_by_key c.as_slice-tables.result.now) c.self.inside.ended.items
-    (ap (map rows_by_key) c.as_slice-tables.ensures.value ∙ ap (λ (e : EngineState g.row.S.Denot). e.tables) c.self.view_is)
+    handed_rows g.S.Store history old kept (map rows_by_key c.self.inside.tables.items) c.self.inside.ended.items
+    (ap (λ (e : EngineState g.row.S.Denot). e.tables) c.self.view_is)
     (ap (λ (e : EngineState g.row.S.Denot). e.ended) c.self.view_is) in
     let known = handed_catalog g.S.Store history old kept c.catalog-catalog.result.now (c.catalog-catalog.ensures ∙ ap (λ (e : EngineState g.row.S.Denot). e.catalog) c.self.view_is) in
     let of = of_catalog c.catalog-catalog.result.now.tables asked query (subst (λ (k : Catalog). ResolvesQuery k.tables s query) (c.catalog.ensures ∙ sym c.catalog-catalog.ensures) c.in_ok-query.ensures.resolved) in
@@ -80,8 +80,8 @@ returns-clause-over g c =
     let s : Statement = statement.sequenced (plain_query c.args.query.now) in
     let old : EngineState g.row.S.Denot = c.args.self.now in
     let catalog : c.catalog.result.now ≡ old.catalog = c.catalog.ensures ∙ ap (λ (e : EngineState g.row.S.Denot). e.catalog) c.self.view_is in
-    let new : EngineState g.row.S.Denot = engine_of c.self.inside.store (map rows_by_key c.self.inside.tables.items) c.answer_query.new.ended.items in
-    let same : new ≡ old = ap (engine_of c.self.inside.store (map rows_by_key c.self.inside.tables.items)) c.answer_query.ensures.same ∙ c.self.view_is in
+    let new : EngineState g.row.S.Denot = engine_of c.self.inside.store (map rows_by_key c.answer_query.new.tables.items) c.answer_query.new.ended.items in
+    let same : new ≡ old = ap₂ (λ ts es. engine_of c.self.inside.store (map rows_by_key ts) es) c.answer_query.ensures.tables c.answer_query.ensures.same ∙ c.self.view_is in
     asked_over g.S.Store old s new (Answered c.in_ok-answer.answer) same
     (subst (λ (k : Catalog). NoneApplies (Holds (query_conditions k.tables s))) catalog c.in_ok-query.ensures.sound) (refl, refl)
 
@@ -99,8 +99,8 @@ returns-in_err-answer-clause-over g c =
     rw (p.1, p.2) (let s : Statement = statement.sequenced (plain_query c.args.query.now) in
     let old : EngineState g.row.S.Denot = c.args.self.now in
     let catalog : c.catalog.result.now ≡ old.catalog = c.catalog.ensures ∙ ap (λ (e : EngineState g.row.S.Denot). e.catalog) c.self.view_is in
-    let new : EngineState g.row.S.Denot = engine_of c.self.inside.store (map rows_by_key c.self.inside.tables.items) c.answer_query.new.ended.items in
-    let same : new ≡ old = ap (engine_of c.self.inside.store (map rows_by_key c.self.inside.tables.items)) c.answer_query.ensures.same ∙ c.self.view_is in
+    let new : EngineState g.row.S.Denot = engine_of c.self.inside.store (map rows_by_key c.answer_query.new.tables.items) c.answer_query.new.ended.items in
+    let same : new ≡ old = ap₂ (λ ts es. engine_of c.self.inside.store (map rows_by_key ts) es) c.answer_query.ensures.tables c.answer_query.ensures.same ∙ c.self.view_is in
     untouched_over g.S.Store old s new c.in_err-answer.field-0.0 same
     (failed_over old.catalog.tables old.clock s c.in_err-answer.field-0.0
     (subst (λ (k : Catalog). NoneApplies (Holds (query_conditions k.tables s))) catalog c.in_ok-query.ensures.sound)

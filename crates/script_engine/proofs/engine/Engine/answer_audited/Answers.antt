@@ -1,4 +1,4 @@
-use Rattle.std.proofs.Common.{◌≡◌, ◌∙◌, List, ap, inl, map, refl, subst, sym}
+use Rattle.std.proofs.Common.{◌≡◌, ◌∙◌, List, ap, ap₂, inl, map, refl, subst, sym}
 use Rattle.std.specs.Prelude.{IfErr}
 use Rattle.period_core.specs.Leasts.{MayAnswer, NoneApplies}
 use Rattle.sql_statements.specs.Plain.{plain_query}
@@ -37,17 +37,18 @@ returns-in-Ok-answer_query-clause-step g c usable history kept =
     let answer = c.in-Ok-answer_query.answer in
     let old : EngineState g.row.S.Denot = c.args.self.now in
     let catalog : c.catalog.result.now ≡ old.catalog = c.catalog.ensures ∙ ap (λ (e : EngineState g.row.S.Denot). e.catalog) c.self.view_is in
-    let new : EngineState g.row.S.Denot = engine_of c.self.inside.store (map rows_by_key c.self.inside.tables.items) c.answer_query.new.ended.items in
-    let same : new ≡ old = ap (engine_of c.self.inside.store (map rows_by_key c.self.inside.tables.items)) c.answer_query.ensures.same ∙ c.self.view_is in
-    let tables : map rows_by_key c.as_slice-tables.result.now ≡ old.tables = ap (map rows_by_key) c.as_slice-tables.ensures.value ∙ ap (λ (e : EngineState g.row.S.Denot). e.tables) c.self.view_is in
+    let new : EngineState g.row.S.Denot = engine_of c.self.inside.store (map rows_by_key c.answer_query.new.tables.items) c.answer_query.new.ended.items in
+    let same : new ≡ old = ap₂ (λ ts es. engine_of c.self.inside.store (map rows_by_key ts) es) c.answer_query.ensures.tables c.answer_query.ensures.same ∙ c.self.view_is in
+    let tables : map rows_by_key c.self.inside.tables.items ≡ old.tables = ap (λ (e : EngineState g.row.S.Denot). e.tables) c.self.view_is in
     let ended : c.self.inside.ended.items ≡ old.ended = ap (λ (e : EngineState g.row.S.Denot). e.ended) c.self.view_is in
-    let rows = handed_rows g.S.Store history old kept (map rows_by_key c.as_slice-tables.result.now) c.self.inside.ended.items tables ended in
+    let rows = handed_rows g.S.Store history old kept (map rows_by_key c.self.inside.tables.items) c.self.inside.ended.items tables ended in
     let known = handed_catalog g.S.Store history old kept c.catalog-catalog.result.now (c.catalog-catalog.ensures ∙ ap (λ (e : EngineState g.row.S.Denot). e.catalog) c.self.view_is) in
     let right = c.in-Ok-answer_query.ensures.right history known rows in
     let found : ResolvesQuery old.catalog.tables s query = subst (λ (k : Catalog). ResolvesQuery k.tables s query) catalog c.in-Ok.ensures.resolved in
     let its : ResolvesQuery (catalog_of history) s query = subst (λ (defs : List TableDef). ResolvesQuery defs s query) (tables_of g.S.Store history old kept) found in
     let audited =
-    handed_rows g.S.Store history old kept (map rows_by_key c.as_slice-tables.result.now) c.as_slice.result.now tables
+    handed_rows g.S.Store history old kept (map rows_by_key c.as_slice-tables.result.now) c.as_slice.result.now
+    (ap (map rows_by_key) (c.as_slice-tables.ensures.value ∙ c.answer_query.ensures.tables) ∙ tables)
     (c.as_slice.ensures.value ∙ c.answer_query.ensures.same ∙ ended) in
     answer_entry g.S.Store history s new query answer c.audit_of-audit.result its
     (c.audit_of-audit.ensures.confirms history audited (of_catalog (catalog_of history) asked query its) right)
@@ -61,8 +62,8 @@ returns-clause-step g c usable history kept =
     let s : Statement = statement.sequenced asked in
     let old : EngineState g.row.S.Denot = c.args.self.now in
     let catalog : c.catalog.result.now ≡ old.catalog = c.catalog.ensures ∙ ap (λ (e : EngineState g.row.S.Denot). e.catalog) c.self.view_is in
-    let new : EngineState g.row.S.Denot = engine_of c.self.inside.store (map rows_by_key c.self.inside.tables.items) c.answer_query.new.ended.items in
-    let same : new ≡ old = ap (engine_of c.self.inside.store (map rows_by_key c.self.inside.tables.items)) c.answer_query.ensures.same ∙ c.self.view_is in
+    let new : EngineState g.row.S.Denot = engine_of c.self.inside.store (map rows_by_key c.answer_query.new.tables.items) c.answer_query.new.ended.items in
+    let same : new ≡ old = ap₂ (λ ts es. engine_of c.self.inside.store (map rows_by_key ts) es) c.answer_query.ensures.tables c.answer_query.ensures.same ∙ c.self.view_is in
     subst (λ (entry : Entry). AuditedStepsTo g.S.Store history s entry new) (sym c.unaudited-in-Err-answer_query.ensures)
     (refused_entry g.S.Store history s new c.in-Err-answer_query.refusal
     (failed_answer g.S.Store history old asked kept new c.in-Err-answer_query.refusal
@@ -82,10 +83,10 @@ returns-clause-queries g c usable history kept =
     let s : Statement = statement.sequenced asked in
     let query = resolved.plain_query c.in-Ok.query in
     let old : EngineState g.row.S.Denot = c.args.self.now in
-    let new : EngineState g.row.S.Denot = engine_of c.self.inside.store (map rows_by_key c.self.inside.tables.items) c.answer_query.new.ended.items in
+    let new : EngineState g.row.S.Denot = engine_of c.self.inside.store (map rows_by_key c.answer_query.new.tables.items) c.answer_query.new.ended.items in
     let rows =
-    handed_rows g.S.Store history old kept (map rows_by_key c.as_slice-tables.result.now) c.self.inside.ended.items
-    (ap (map rows_by_key) c.as_slice-tables.ensures.value ∙ ap (λ (e : EngineState g.row.S.Denot). e.tables) c.self.view_is)
+    handed_rows g.S.Store history old kept (map rows_by_key c.self.inside.tables.items) c.self.inside.ended.items
+    (ap (λ (e : EngineState g.row.S.Denot). e.tables) c.self.view_is)
     (ap (λ (e : EngineState g.row.S.Denot). e.ended) c.self.view_is) in
     let known = handed_catalog g.S.Store history old kept c.catalog-catalog.result.now (c.catalog-catalog.ensures ∙ ap (λ (e : EngineState g.row.S.Denot). e.catalog) c.self.view_is) in
     let of = of_catalog c.catalog-catalog.result.now.tables asked query (subst (λ (k : Catalog). ResolvesQuery k.tables s query) (c.catalog.ensures ∙ sym c.catalog-catalog.ensures) c.in-Ok.ensures.resolved) in
@@ -97,8 +98,8 @@ returns-in-Ok-answer_query-clause-over g c =
     let s : Statement = statement.sequenced (plain_query c.args.query.now) in
     let old : EngineState g.row.S.Denot = c.args.self.now in
     let catalog : c.catalog.result.now ≡ old.catalog = c.catalog.ensures ∙ ap (λ (e : EngineState g.row.S.Denot). e.catalog) c.self.view_is in
-    let new : EngineState g.row.S.Denot = engine_of c.self.inside.store (map rows_by_key c.self.inside.tables.items) c.answer_query.new.ended.items in
-    let same : new ≡ old = ap (engine_of c.self.inside.store (map rows_by_key c.self.inside.tables.items)) c.answer_query.ensures.same ∙ c.self.view_is in
+    let new : EngineState g.row.S.Denot = engine_of c.self.inside.store (map rows_by_key c.answer_query.new.tables.items) c.answer_query.new.ended.items in
+    let same : new ≡ old = ap₂ (λ ts es. engine_of c.self.inside.store (map rows_by_key ts) es) c.answer_query.ensures.tables c.answer_query.ensures.same ∙ c.self.view_is in
     asked_over g.S.Store old s new (Answered c.in-Ok-answer_query.answer) same
     (subst (λ (k : Catalog). NoneApplies (Holds (query_conditions k.tables s))) catalog c.in-Ok.ensures.sound) (refl, refl)
 
@@ -116,8 +117,8 @@ returns-clause-over g c =
     let s : Statement = statement.sequenced (plain_query c.args.query.now) in
     let old : EngineState g.row.S.Denot = c.args.self.now in
     let catalog : c.catalog.result.now ≡ old.catalog = c.catalog.ensures ∙ ap (λ (e : EngineState g.row.S.Denot). e.catalog) c.self.view_is in
-    let new : EngineState g.row.S.Denot = engine_of c.self.inside.store (map rows_by_key c.self.inside.tables.items) c.answer_query.new.ended.items in
-    let same : new ≡ old = ap (engine_of c.self.inside.store (map rows_by_key c.self.inside.tables.items)) c.answer_query.ensures.same ∙ c.self.view_is in
+    let new : EngineState g.row.S.Denot = engine_of c.self.inside.store (map rows_by_key c.answer_query.new.tables.items) c.answer_query.new.ended.items in
+    let same : new ≡ old = ap₂ (λ ts es. engine_of c.self.inside.store (map rows_by_key ts) es) c.answer_query.ensures.tables c.answer_query.ensures.same ∙ c.self.view_is in
     subst (λ (entry : Entry). StepOver g.S.Store old s entry.result new) (sym c.unaudited-in-Err-answer_query.ensures)
     (untouched_over g.S.Store old s new c.in-Err-answer_query.refusal same
     (failed_over old.catalog.tables old.clock s c.in-Err-answer_query.refusal

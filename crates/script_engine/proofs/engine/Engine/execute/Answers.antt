@@ -10,7 +10,10 @@ use Rattle.statement_reports.specs.declared.outcome.Word.TheVariants as word
 use Rattle.script_engine.specs.engine.Planned.{IsResolved}
 use Rattle.script_engine.specs.engine.Runs.{StepsTo}
 use Rattle.std.specs.Prelude.{IfErr}
+use Rattle.version_store.specs.StoreState.{SparesOthers}
+use Rattle.script_engine.specs.engine.EngineState.{EngineState}
 use Rattle.script_engine.specs.engine.Over.{StepOver}
+use Rattle.script_engine.specs.engine.Stored.{EngineRepresents, KeepsOnErr}
 use Rattle.script_engine.specs.engine.Runs.{IsQuery, MayRefuseQuery}
 use Rattle.script_engine.proofs.Resolved.{resolved_delete, resolved_insert, resolved_update}
 use Rattle.std.proofs.lemmas.Result.{IfErr-weaker}
@@ -74,7 +77,7 @@ change-requires-in-Update g c =
     let said : statement.update (plain_update c.in-Update.update) ≡ plain c.args.statement.now = ap plain_form (sym c.in-Update.is) ∙ c.form.ensures in
     let known : IsResolved c.args.self.now.catalog.tables (plain c.args.statement.now) word.Update r =
     subst₂ (λ (tables : List TableDef) (s : Statement). IsResolved tables s word.Update r) same said (resolved_update c.catalog-in-Update.result.now.tables (plain_update c.in-Update.update) r c.resolve_update-resolved.ensures.sound c.resolve_update-resolved.ensures.resolved c.resolve_update-resolved.ensures.refused) in
-    (plain c.args.statement.now, known)
+    (plain c.args.statement.now, subst (λ (e : EngineState g.row.S.Denot). IsResolved e.catalog.tables (plain c.args.statement.now) word.Update r) (sym c.prepare.ensures) known)
 
 pub returns-in-Update-clause-step : goal.returns-in-Update-clause-step
 returns-in-Update-clause-step g c usable history kept =
@@ -83,7 +86,8 @@ returns-in-Update-clause-step g c usable history kept =
     let said : statement.update (plain_update c.in-Update.update) ≡ plain c.args.statement.now = ap plain_form (sym c.in-Update.is) ∙ c.form.ensures in
     let known : IsResolved c.args.self.now.catalog.tables (plain c.args.statement.now) word.Update r =
     subst₂ (λ (tables : List TableDef) (s : Statement). IsResolved tables s word.Update r) same said (resolved_update c.catalog-in-Update.result.now.tables (plain_update c.in-Update.update) r c.resolve_update-resolved.ensures.sound c.resolve_update-resolved.ensures.resolved c.resolve_update-resolved.ensures.refused) in
-    c.change-in-Update.ensures.step usable history kept (plain c.args.statement.now) known
+    c.change-in-Update.ensures.step usable history (subst (EngineRepresents g.S.Store history) (sym c.prepare.ensures) kept) (plain c.args.statement.now)
+    (subst (λ (e : EngineState g.row.S.Denot). IsResolved e.catalog.tables (plain c.args.statement.now) word.Update r) (sym c.prepare.ensures) known)
 
 pub returns-in-Update-clause-over : goal.returns-in-Update-clause-over
 returns-in-Update-clause-over g c =
@@ -92,7 +96,8 @@ returns-in-Update-clause-over g c =
     let said : statement.update (plain_update c.in-Update.update) ≡ plain c.args.statement.now = ap plain_form (sym c.in-Update.is) ∙ c.form.ensures in
     let known : IsResolved c.args.self.now.catalog.tables (plain c.args.statement.now) word.Update r =
     subst₂ (λ (tables : List TableDef) (s : Statement). IsResolved tables s word.Update r) same said (resolved_update c.catalog-in-Update.result.now.tables (plain_update c.in-Update.update) r c.resolve_update-resolved.ensures.sound c.resolve_update-resolved.ensures.resolved c.resolve_update-resolved.ensures.refused) in
-    c.change-in-Update.ensures.over (plain c.args.statement.now) known
+    subst (λ (e : EngineState g.row.S.Denot). StepOver g.S.Store e (plain c.args.statement.now) c.change-in-Update.result c.change-in-Update.new.self) c.prepare.ensures
+    (c.change-in-Update.ensures.over (plain c.args.statement.now) (subst (λ (e : EngineState g.row.S.Denot). IsResolved e.catalog.tables (plain c.args.statement.now) word.Update r) (sym c.prepare.ensures) known))
 
 pub change-requires-in-Delete : goal.change-requires-in-Delete
 change-requires-in-Delete g c =
@@ -101,7 +106,7 @@ change-requires-in-Delete g c =
     let said : statement.delete (plain_delete c.in-Delete.delete) ≡ plain c.args.statement.now = ap plain_form (sym c.in-Delete.is) ∙ c.form.ensures in
     let known : IsResolved c.args.self.now.catalog.tables (plain c.args.statement.now) word.Delete r =
     subst₂ (λ (tables : List TableDef) (s : Statement). IsResolved tables s word.Delete r) same said (resolved_delete c.catalog-in-Delete.result.now.tables (plain_delete c.in-Delete.delete) r c.resolve_delete-resolved.ensures.sound c.resolve_delete-resolved.ensures.resolved c.resolve_delete-resolved.ensures.refused) in
-    (plain c.args.statement.now, known)
+    (plain c.args.statement.now, subst (λ (e : EngineState g.row.S.Denot). IsResolved e.catalog.tables (plain c.args.statement.now) word.Delete r) (sym c.prepare-in-Delete.ensures) known)
 
 pub returns-in-Delete-clause-step : goal.returns-in-Delete-clause-step
 returns-in-Delete-clause-step g c usable history kept =
@@ -110,7 +115,8 @@ returns-in-Delete-clause-step g c usable history kept =
     let said : statement.delete (plain_delete c.in-Delete.delete) ≡ plain c.args.statement.now = ap plain_form (sym c.in-Delete.is) ∙ c.form.ensures in
     let known : IsResolved c.args.self.now.catalog.tables (plain c.args.statement.now) word.Delete r =
     subst₂ (λ (tables : List TableDef) (s : Statement). IsResolved tables s word.Delete r) same said (resolved_delete c.catalog-in-Delete.result.now.tables (plain_delete c.in-Delete.delete) r c.resolve_delete-resolved.ensures.sound c.resolve_delete-resolved.ensures.resolved c.resolve_delete-resolved.ensures.refused) in
-    c.change-in-Delete.ensures.step usable history kept (plain c.args.statement.now) known
+    c.change-in-Delete.ensures.step usable history (subst (EngineRepresents g.S.Store history) (sym c.prepare-in-Delete.ensures) kept) (plain c.args.statement.now)
+    (subst (λ (e : EngineState g.row.S.Denot). IsResolved e.catalog.tables (plain c.args.statement.now) word.Delete r) (sym c.prepare-in-Delete.ensures) known)
 
 pub returns-in-Delete-clause-over : goal.returns-in-Delete-clause-over
 returns-in-Delete-clause-over g c =
@@ -119,7 +125,8 @@ returns-in-Delete-clause-over g c =
     let said : statement.delete (plain_delete c.in-Delete.delete) ≡ plain c.args.statement.now = ap plain_form (sym c.in-Delete.is) ∙ c.form.ensures in
     let known : IsResolved c.args.self.now.catalog.tables (plain c.args.statement.now) word.Delete r =
     subst₂ (λ (tables : List TableDef) (s : Statement). IsResolved tables s word.Delete r) same said (resolved_delete c.catalog-in-Delete.result.now.tables (plain_delete c.in-Delete.delete) r c.resolve_delete-resolved.ensures.sound c.resolve_delete-resolved.ensures.resolved c.resolve_delete-resolved.ensures.refused) in
-    c.change-in-Delete.ensures.over (plain c.args.statement.now) known
+    subst (λ (e : EngineState g.row.S.Denot). StepOver g.S.Store e (plain c.args.statement.now) c.change-in-Delete.result c.change-in-Delete.new.self) c.prepare-in-Delete.ensures
+    (c.change-in-Delete.ensures.over (plain c.args.statement.now) (subst (λ (e : EngineState g.row.S.Denot). IsResolved e.catalog.tables (plain c.args.statement.now) word.Delete r) (sym c.prepare-in-Delete.ensures) known))
 
 pub returns-in-Sequenced-clause-over : goal.returns-in-Sequenced-clause-over
 returns-in-Sequenced-clause-over g c =
@@ -194,7 +201,8 @@ returns-in-Update-clause-why g c =
     let said : statement.update (plain_update c.in-Update.update) ≡ plain c.args.statement.now = ap plain_form (sym c.in-Update.is) ∙ c.form.ensures in
     let known : IsResolved c.args.self.now.catalog.tables (plain c.args.statement.now) word.Update r =
     subst₂ (λ (tables : List TableDef) (s : Statement). IsResolved tables s word.Update r) same said (resolved_update c.catalog-in-Update.result.now.tables (plain_update c.in-Update.update) r c.resolve_update-resolved.ensures.sound c.resolve_update-resolved.ensures.resolved c.resolve_update-resolved.ensures.refused) in
-    c.change-in-Update.ensures.why (plain c.args.statement.now) known
+    subst (λ (e : EngineState g.row.S.Denot). StatementFailsOnFault g.S.Store e (plain c.args.statement.now) c.change-in-Update.result c.change-in-Update.new.self) c.prepare.ensures
+    (c.change-in-Update.ensures.why (plain c.args.statement.now) (subst (λ (e : EngineState g.row.S.Denot). IsResolved e.catalog.tables (plain c.args.statement.now) word.Update r) (sym c.prepare.ensures) known))
 
 pub returns-in-Delete-clause-why : goal.returns-in-Delete-clause-why
 returns-in-Delete-clause-why g c =
@@ -203,7 +211,8 @@ returns-in-Delete-clause-why g c =
     let said : statement.delete (plain_delete c.in-Delete.delete) ≡ plain c.args.statement.now = ap plain_form (sym c.in-Delete.is) ∙ c.form.ensures in
     let known : IsResolved c.args.self.now.catalog.tables (plain c.args.statement.now) word.Delete r =
     subst₂ (λ (tables : List TableDef) (s : Statement). IsResolved tables s word.Delete r) same said (resolved_delete c.catalog-in-Delete.result.now.tables (plain_delete c.in-Delete.delete) r c.resolve_delete-resolved.ensures.sound c.resolve_delete-resolved.ensures.resolved c.resolve_delete-resolved.ensures.refused) in
-    c.change-in-Delete.ensures.why (plain c.args.statement.now) known
+    subst (λ (e : EngineState g.row.S.Denot). StatementFailsOnFault g.S.Store e (plain c.args.statement.now) c.change-in-Delete.result c.change-in-Delete.new.self) c.prepare-in-Delete.ensures
+    (c.change-in-Delete.ensures.why (plain c.args.statement.now) (subst (λ (e : EngineState g.row.S.Denot). IsResolved e.catalog.tables (plain c.args.statement.now) word.Delete r) (sym c.prepare-in-Delete.ensures) known))
 
 pub returns-in-Sequenced-clause-why : goal.returns-in-Sequenced-clause-why
 returns-in-Sequenced-clause-why g c = λ usable history kept room.
@@ -214,3 +223,15 @@ pub returns-in-Stored-clause-why : goal.returns-in-Stored-clause-why
 returns-in-Stored-clause-why g c = λ usable history kept room.
     let asked : Statement = statement.stored (plain_stored c.in-Stored.query) in
     IfErr-weaker c.show.result _ _ (λ refusal may told. asked_by_fault g.S.Store c.args.self.now c.show.new.self asked refusal tt may told) (c.show.ensures.queries usable history kept)
+
+pub returns-in-Update-clause-kept : goal.returns-in-Update-clause-kept
+returns-in-Update-clause-kept g c = subst (λ (e : EngineState g.row.S.Denot). KeepsOnErr g.S.Store e c.change-in-Update.new.self c.change-in-Update.result) c.prepare.ensures c.change-in-Update.ensures.kept
+
+pub returns-in-Update-clause-others : goal.returns-in-Update-clause-others
+returns-in-Update-clause-others g c = subst (λ (e : EngineState g.row.S.Denot). SparesOthers g.S.Store e.connection c.change-in-Update.new.self.connection) c.prepare.ensures c.change-in-Update.ensures.others
+
+pub returns-in-Delete-clause-kept : goal.returns-in-Delete-clause-kept
+returns-in-Delete-clause-kept g c = subst (λ (e : EngineState g.row.S.Denot). KeepsOnErr g.S.Store e c.change-in-Delete.new.self c.change-in-Delete.result) c.prepare-in-Delete.ensures c.change-in-Delete.ensures.kept
+
+pub returns-in-Delete-clause-others : goal.returns-in-Delete-clause-others
+returns-in-Delete-clause-others g c = subst (λ (e : EngineState g.row.S.Denot). SparesOthers g.S.Store e.connection c.change-in-Delete.new.self.connection) c.prepare-in-Delete.ensures c.change-in-Delete.ensures.others

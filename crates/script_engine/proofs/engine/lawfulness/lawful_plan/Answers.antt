@@ -19,8 +19,7 @@ pub returns-in_err-judge_plan-clause-refused : goal.returns-in_err-judge_plan-cl
 returns-in_err-judge_plan-clause-refused c =
     let p = err_from_is_err_and c.from_residual-in_err-judge_plan.result c.from_residual-in_err-judge_plan.ensures.1 in
     let action : Action = c.args.change.action in
-    let planned : IsPlanOf action c.in-Some.table.now.rows c.in_ok-plan.plan =
-    subst (λ (rows : List VersionRow). IsPlanOf action rows c.in_ok-plan.plan) c.rows.ensures.rows c.in_ok-plan.ensures.plan in
+    let planned : IsPlanOf action c.in-Some.table.now.rows c.in_ok-plan.plan = c.in_ok-plan.ensures.plan in
     rw (p.1, p.2) (elim c.in_err-judge_plan.ensures.fault [
       | inl memory ↦ inr (inl memory)
       | inr fault ↦ inr (inr (
@@ -36,13 +35,10 @@ pub returns-clause-plan : goal.returns-clause-plan
 returns-clause-plan c =
     let number = c.args.change.table in
     subst (λ (rows : List VersionRow). IsPlanOf c.args.change.action rows c.in_ok-plan.plan)
-    (c.rows.ensures.rows ∙ sym (rows_of_table c.args.tables.now number c.in-Some.table.now c.in-Some.ensures)) c.in_ok-plan.ensures.plan
+    (sym (rows_of_table c.args.tables.now number c.in-Some.table.now c.in-Some.ensures)) c.in_ok-plan.ensures.plan
 
 pub returns-clause-lawful : goal.returns-clause-lawful
-returns-clause-lawful c = λ before.
-    let action : Action = c.args.change.action in
-    c.in_ok-judge_plan.ensures.lawful c.args.change before refl
-    (subst (λ (rows : List VersionRow). IsPlanOf action rows c.in_ok-plan.plan) c.rows.ensures.rows c.in_ok-plan.ensures.plan)
+returns-clause-lawful c = λ before. c.in_ok-judge_plan.ensures.lawful c.args.change before refl c.in_ok-plan.ensures.plan
 
 pub returns-clause-keys : goal.returns-clause-keys
 returns-clause-keys c = λ table is.
@@ -50,4 +46,4 @@ returns-clause-keys c = λ table is.
     let there = rows_there tables c.args.change.table c.in-Some.table.now c.in-Some.ensures in
     let same : c.in-Some.table.now.positions ≡ table.positions = ap (λ (found : Option RowsByKey). option_map_or (λ (t : RowsByKey). t.positions) found []) (sym there ∙ is) in
     c.in_ok-keys.ensures
-    ∙ ap₂ (λ (positions : List ℕ) (rows : List PeriodRow). map (key_values positions) rows) (c.positions.ensures ∙ c.rows-2.ensures.positions ∙ same) c.as_slice.ensures
+    ∙ ap₂ (λ (positions : List ℕ) (rows : List PeriodRow). map (key_values positions) rows) (c.positions.ensures ∙ c.rows.ensures.positions ∙ same) c.as_slice.ensures

@@ -1,4 +1,4 @@
-use Rattle.std.proofs.Common.{◌≡◌, ◌∙◌, [], List, ap, ap₂, map, subst, sym}
+use Rattle.std.proofs.Common.{◌≡◌, ◌∙◌, [], List, ap, ap₂, map, subst, subst₂, sym}
 use Rattle.std.specs.Prelude.{OnOk, Result, Ok, Err}
 use Rattle.sql_statements.specs.declared.tree.Tree.{Tree}
 use Rattle.catalog_core.specs.declared.condition.CompareValues.{CompareValues}
@@ -7,9 +7,9 @@ use Rattle.catalog_core.specs.declared.query.resolved.QueryReference.{QueryRefer
 use Rattle.catalog_core.specs.query.Queries.{Query, both, plain_query}
 use Rattle.period_core.specs.declared.row.PeriodRow.{PeriodRow}
 use Rattle.period_keys.specs.Current.{rows_by_key}
-use Rattle.script_engine.specs.engine.Needed.{AddNeeded, IsNeededBy, SeeNeeded}
+use Rattle.script_engine.specs.engine.Needed.{AddNeeded, ArePlaced, IsNeededBy, SeeNeeded}
 use Rattle.script_engine.specs.engine.Stored.{RowsRepresent}
-use Rattle.script_engine.proofs.Needed.{added_behind, added_both}
+use Rattle.script_engine.proofs.Needed.{added_behind, added_both, no_lists_placed}
 use Rattle.script_engine.proofs.engine.needed.+push_needed_tables.Goals as goal
 
 on_ok : {X E : Type 0} (r : Result X E) (P Q : Type 0) → (P → Q) → OnOk r P → OnOk r Q
@@ -19,17 +19,18 @@ on_ok (Err e) P Q more h = h
 pub returns-in_ok-append-in-Select-clause-needed : goal.returns-in_ok-append-in-Select-clause-needed
 returns-in_ok-append-in-Select-clause-needed t c history same represents =
     let old = c.args.lists.now.items in
-    let seen = c.push_needed_by_each.new.lists.items in
+    let seen = c.push_needed_by_each.new.seen.lists.items in
     let new = c.append.new.self.items in
     let select = c.in-Select.select in
-    let none : List (List PeriodRow) = c.new-seen.result.items in
-    let given : AddNeeded (SeeNeeded history c.as_slice-conjuncts.result.now none 0 c.as_slice-references.result.now) none seen = c.in_ok-push_needed_by_each-in-Select.ensures.needed history same represents in
+    let none : List (List PeriodRow) = c.new-in-Select.result.items in
+    let placed : ArePlaced none c.new.result.items 0 = subst₂ (λ ls ps. ArePlaced ls ps 0) (sym c.new-in-Select.ensures.items) (sym c.new.ensures.items) no_lists_placed in
+    let given : AddNeeded (SeeNeeded history c.as_slice-conjuncts.result.now none 0 c.as_slice-references.result.now) none seen = c.in_ok-push_needed_by_each-in-Select.ensures.needed history same represents placed in
     let its : AddNeeded (SeeNeeded history select.conjuncts [] 0 select.references) none seen =
     subst (λ (cs : List (Tree CompareValues)). AddNeeded (SeeNeeded history cs [] 0 select.references) none seen) c.as_slice-conjuncts.ensures
     (subst (λ (rs : List QueryReference). AddNeeded (SeeNeeded history c.as_slice-conjuncts.result.now [] 0 rs) none seen) c.as_slice-references.ensures.value
-    (subst (λ (earlier : List (List PeriodRow)). AddNeeded (SeeNeeded history c.as_slice-conjuncts.result.now earlier 0 c.as_slice-references.result.now) none seen) c.new-seen.ensures.items given)) in
+    (subst (λ (earlier : List (List PeriodRow)). AddNeeded (SeeNeeded history c.as_slice-conjuncts.result.now earlier 0 c.as_slice-references.result.now) none seen) c.new-in-Select.ensures.items given)) in
     subst (λ (q : code.Query). AddNeeded (IsNeededBy history (plain_query q)) old new) (sym c.in-Select.is)
-    (added_behind (SeeNeeded history select.conjuncts [] 0 select.references) old none seen new c.new-seen.ensures.items its c.in_ok-append-in-Select.ensures.items)
+    (added_behind (SeeNeeded history select.conjuncts [] 0 select.references) old none seen new c.new-in-Select.ensures.items its c.in_ok-append-in-Select.ensures.items)
 
 pub returns-in_ok-push_needed_tables-in-Combined-clause-needed : goal.returns-in_ok-push_needed_tables-in-Combined-clause-needed
 returns-in_ok-push_needed_tables-in-Combined-clause-needed t c history known represents =
@@ -42,4 +43,4 @@ returns-in_ok-push_needed_tables-in-Combined-clause-needed t c history known rep
     ap₂ (λ (a b : Query). both c.in-Combined.field-0 a b) (ap plain_query c.deref.ensures) (ap plain_query c.deref-in-Combined.ensures) ∙ ap plain_query (sym c.in-Combined.is) in
     on_ok c.push_needed_tables-in-Combined.result (AddNeeded (IsNeededBy history right) c.push_needed_tables.new.lists.items new) (AddNeeded (IsNeededBy history (plain_query c.args.query.now)) old new)
     (λ second. subst (λ (q : Query). AddNeeded (IsNeededBy history q) old new) same (added_both history c.in-Combined.field-0 left right old c.push_needed_tables.new.lists.items new first second))
-    (c.push_needed_tables-in-Combined.ensures.needed history known (subst (RowsRepresent history (map rows_by_key c.args.tables.now)) (sym c.push_needed_tables.ensures.same) represents))
+    (c.push_needed_tables-in-Combined.ensures.needed history known (subst₂ (λ ts ls. RowsRepresent history (map rows_by_key ts) ls) (sym c.push_needed_tables.ensures.tables) (sym c.push_needed_tables.ensures.same) represents))

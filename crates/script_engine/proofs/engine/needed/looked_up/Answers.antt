@@ -1,12 +1,12 @@
-use Rattle.std.proofs.Common.{◌≡◌, ◌+◌, ◌++◌, ◌∷◌, ◌∙◌, [], List, ap, arith, length, map, refl, subst, sym, take}
+use Rattle.std.proofs.Common.{◌≡◌, ◌+◌, ◌++◌, ◌∷◌, ◌∙◌, [], List, ap, map, refl, subst, subst₂, sym, take}
 use Rattle.std.proofs.lemmas.List.{take_all, take_more}
 use Rattle.history_model.specs.OrdinaryQuery.{VisibleInHistory}
 use Rattle.period_core.specs.declared.row.PeriodRow.{PeriodRow}
 use Rattle.period_core.specs.declared.value.Value.{Value}
 use Rattle.period_keys.specs.Current.{rows_by_key}
 use Rattle.period_keys.specs.FixedKeys.{IsRangeAfter}
-use Rattle.script_engine.specs.engine.Needed.{EndInRow, IsPrunedAfter}
-use Rattle.script_engine.specs.engine.Reading.{positions_in}
+use Rattle.period_keys.specs.declared.row_range.RowRange.{RowRange}
+use Rattle.script_engine.specs.engine.Needed.{HaveRowFrom, IsPrunedAfter}
 use Rattle.script_engine.specs.engine.Stored.{RowsRepresent}
 use Rattle.script_engine.proofs.Needed.{looked_up_alike}
 use Rattle.script_engine.proofs.Read.{its_read, read_after, read_after_none}
@@ -14,19 +14,20 @@ use Rattle.script_engine.proofs.engine.needed.looked_up.Goals as goal
 
 pub loop-row-init : goal.loop-row-init
 loop-row-init c = record {
+  tables = c.rows_left.ensures.same;
   same = refl;
   needed = λ history represents wide.
-      subst (IsPrunedAfter (EndInRow []) c.args.conditions.now.conjuncts.now c.args.conditions.now.start (λ day. VisibleInHistory history day c.args.reference.now)) (sym c.new-rows.ensures.items)
-      (read_after_none history c.args.conditions.now.conjuncts.now c.args.conditions.now.start c.args.reference.now);
+      subst (IsPrunedAfter (HaveRowFrom [] c.args.at) c.args.conditions.now.conjuncts.now c.args.conditions.now.start (λ day. VisibleInHistory history day c.args.conditions.now.reference.now)) (sym c.new-rows.ensures.items)
+      (read_after_none history c.args.conditions.now.conjuncts.now c.args.conditions.now.start c.args.at c.args.conditions.now.reference.now);
 }
 
 pub loop-row-preserved : goal.loop-row-preserved
 loop-row-preserved c =
     let conjuncts = c.args.conditions.now.conjuncts.now in
     let start = c.args.conditions.now.start in
-    let width = c.args.width in
-    let reference = c.args.reference.now in
-    let tables = map rows_by_key c.args.tables.now in
+    let width = c.args.conditions.now.width in
+    let reference = c.args.conditions.now.reference.now in
+    let tables = map rows_by_key c.as_slice-tables.result.now in
     let previous : List PeriodRow = c.args.previous.now in
     let i = c.loop-row.row-index in
     let row : PeriodRow = c.row-item.result in
@@ -36,30 +37,29 @@ loop-row-preserved c =
     let new : List PeriodRow = c.read_chained.new.rows.items in
     let next : take (i + 1) previous ≡ take i previous ++ row ∷ [] =
     take_more previous i row c.loop-row-test.true ∙ ap (λ (r : PeriodRow). take i previous ++ r ∷ []) (sym c.row-item.is) in
-    let at = c.in-Some.at in
-    let known_end : at + length row.values ≡ start =
-    subst (λ (values : List Value). at + length values ≡ start) c.as_slice-known.ensures (omega (arith, c.in-Some.ensures)) in
-    let within : IsRangeAfter conjuncts row.values at start width (positions_in tables reference.table) access.range =
-    subst (λ range. IsRangeAfter conjuncts row.values at start width (positions_in tables reference.table) range) (sym c.of-access.ensures.range)
-    (subst (λ positions. IsRangeAfter conjuncts row.values at start width positions c.in_ok-range.range) c.positions_of_number-positions.ensures
-    (subst (λ (values : List Value). IsRangeAfter conjuncts values at start width c.positions_of_number-positions.result.now c.in_ok-range.range) c.as_slice-known.ensures c.in_ok-range.ensures.within)) in
+    let at = c.args.at in
+    let kept = c.as_slice-tables.ensures.value ∙ c.rows_left-in-loop-row.ensures.same ∙ c.loop-row.invariant.tables in
+    let within : IsRangeAfter conjuncts row.values at start width access.rows.positions access.rows.range =
+    subst (λ (rows : RowRange). IsRangeAfter conjuncts row.values at start width rows.positions rows.range) (sym c.of-access.ensures.rows)
+    (subst (λ (values : List Value). IsRangeAfter conjuncts values at start width c.in_ok-left.left.positions c.in_ok-left.left.range) c.as_slice-known.ensures c.in_ok-left.ensures.left) in
     record {
+      tables = c.rows_left-in-loop-row.ensures.same ∙ c.loop-row.invariant.tables;
       same = c.read_chained.ensures.same ∙ c.loop-row.invariant.same;
       needed = λ history represents wide.
-          let its : RowsRepresent history tables lists = subst (RowsRepresent history tables) (sym c.loop-row.invariant.same) represents in
+          let its : RowsRepresent history tables lists = subst₂ (RowsRepresent history) (sym (ap (map rows_by_key) kept)) (sym c.loop-row.invariant.same) represents in
           let (some, read, made) = its_read history tables lists reference its access conjuncts start old new c.of-access.ensures.table c.in_ok-read_chained.ensures.read in
-          subst (λ (rows : List PeriodRow). IsPrunedAfter (EndInRow rows) conjuncts start (λ day. VisibleInHistory history day reference) new) (sym next)
-          (read_after history tables lists reference its conjuncts start width access (positions_in tables reference.table) some c.of-access.ensures.window read
-          (take i previous) row old new at wide known_end within made (c.loop-row.invariant.needed history represents wide));
+          subst (λ (rows : List PeriodRow). IsPrunedAfter (HaveRowFrom rows c.args.at) conjuncts start (λ day. VisibleInHistory history day reference) new) (sym next)
+          (read_after history tables lists reference its conjuncts start width access some c.of-access.ensures.window read
+          (take i previous) row old new at wide within made (c.loop-row.invariant.needed history represents wide));
     }
 
 pub returns-clause-needed : goal.returns-clause-needed
 returns-clause-needed c = λ history represents wide.
     let conjuncts = c.args.conditions.now.conjuncts.now in
     let start = c.args.conditions.now.start in
-    let reference = c.args.reference.now in
+    let reference = c.args.conditions.now.reference.now in
     let previous : List PeriodRow = c.args.previous.now in
     let rows : List PeriodRow = c.loop-row.rows.items in
-    looked_up_alike (EndInRow previous) conjuncts start (λ day. VisibleInHistory history day reference) rows c.in_ok-once_each.field-0.items c.in_ok-once_each.ensures
-    (subst (λ (done : List PeriodRow). IsPrunedAfter (EndInRow done) conjuncts start (λ day. VisibleInHistory history day reference) rows) (take_all c.loop-row.row-index previous c.loop-row-test.false)
+    looked_up_alike (HaveRowFrom previous c.args.at) conjuncts start (λ day. VisibleInHistory history day reference) rows c.in_ok-once_each.field-0.items c.in_ok-once_each.ensures
+    (subst (λ (done : List PeriodRow). IsPrunedAfter (HaveRowFrom done c.args.at) conjuncts start (λ day. VisibleInHistory history day reference) rows) (take_all c.loop-row.row-index previous c.loop-row-test.false)
     (c.loop-row.invariant.needed history represents wide))

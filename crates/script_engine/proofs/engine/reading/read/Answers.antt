@@ -4,7 +4,7 @@ use Rattle.period_core.specs.declared.version.VersionRow.{VersionRow}
 use Rattle.period_keys.specs.Current.{rows_by_key}
 use Rattle.period_keys.proofs.Answered.{on_ok}
 use Rattle.script_engine.specs.engine.InMemory.{rows_in}
-use Rattle.script_engine.specs.engine.Reading.{AddRead, positions_in, versions_in}
+use Rattle.script_engine.specs.engine.Reading.{AddRead, MayBeUnread, versions_in}
 use Rattle.script_engine.proofs.EndedAfter.{holds_none, no_list, some_list}
 use Rattle.script_engine.proofs.Taken.{add_both}
 use Rattle.script_engine.proofs.engine.reading.read.Goals as goal
@@ -22,8 +22,7 @@ returns-in-Some g c = λ versions hold.
     let new = c.read_list.new.rows.items in
     let its : Hold c.in-Some.list.now versions = subst (λ (l : List PackedVersion). Hold l versions) (some_list c.args.ended.now number c.in-Some.list.now c.in-Some.ensures) hold in
     on_ok c.read_list.result
-    (λ more. add_both access (positions_in tables number) Taken Lack made (rows_in tables number) (reverse versions) before middle new c.in_ok-read_current.ensures
-    (subst (λ positions. AddRead access positions Taken Lack made (reverse versions) middle new) c.positions_of_number-positions.ensures more))
+    (add_both Taken (MayBeUnread access Lack) made (rows_in tables number) (reverse versions) before middle new c.in_ok-read_current.ensures)
     (c.read_list.ensures versions its)
 
 pub returns-in-None : goal.returns-in-None
@@ -37,5 +36,5 @@ returns-in-None g c = λ versions hold.
     let before = c.args.rows.now.items in
     let middle = c.read_current.new.rows.items in
     let none = holds_none versions (subst (λ (l : List PackedVersion). Hold l versions) (no_list c.args.ended.now number c.in-None.ensures) hold) in
-    subst (λ (vs : List VersionRow). AddRead access (positions_in tables number) Taken Lack made (versions_in tables number vs) before middle) (sym none)
-    (subst (λ (vs : List VersionRow). AddRead access (positions_in tables number) Taken Lack made vs before middle) (sym (append-nil (rows_in tables number))) c.in_ok-read_current.ensures)
+    subst (λ (vs : List VersionRow). AddRead Taken (MayBeUnread access Lack) made (versions_in tables number vs) before middle) (sym none)
+    (subst (λ (vs : List VersionRow). AddRead Taken (MayBeUnread access Lack) made vs before middle) (sym (append-nil (rows_in tables number))) c.in_ok-read_current.ensures)

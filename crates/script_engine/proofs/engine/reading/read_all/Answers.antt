@@ -9,13 +9,11 @@ pub loop-group-init : goal.loop-group-init
 loop-group-init g c = (
   [],
   sym (ap rows_of_lists c.into_iter-group-iterator.ensures.into_iter_gives ∙ c.groups-group-items.ensures),
-  add_none c.args.access.now c.args.current.now.positions (g.S.Selection.IsTaken c.args.selection.now) (g.S.Selection.MayLack c.args.selection.now) g.S.Selection.made c.args.rows.now.items,
+  add_none (g.S.Selection.IsTaken c.args.selection.now) (g.S.Selection.MayLack c.args.selection.now) g.S.Selection.made c.args.rows.now.items,
 )
 
 pub loop-group-preserved : goal.loop-group-preserved
 loop-group-preserved g c =
-    let access = c.args.access.now in
-    let positions = c.args.current.now.positions in
     let Taken = g.S.Selection.IsTaken c.args.selection.now in
     let Lack = g.S.Selection.MayLack c.args.selection.now in
     let made = g.S.Selection.made in
@@ -27,12 +25,12 @@ loop-group-preserved g c =
     let new = c.read_versions.new.rows.items in (
       done ++ group,
       split ∙ ap (λ (xs : List VersionRow). done ++ xs) left ∙ sym (append_assoc done group rest),
-      add_both access positions Taken Lack made done group c.args.rows.now.items middle new added
-          (subst (λ (xs : List VersionRow). AddRead access positions Taken Lack made xs middle new) c.as_slice.ensures (c.in_ok-read_versions.ensures positions)),
+      add_both Taken Lack made done group c.args.rows.now.items middle new added
+          (subst (λ (xs : List VersionRow). AddRead Taken Lack made xs middle new) c.as_slice.ensures c.in_ok-read_versions.ensures),
     )
 
 pub returns : goal.returns
 returns g c =
     let (done, split, added) = c.loop-group.invariant in
     let all : done ≡ c.args.current.now.rows = sym (split ∙ ap (λ (xs : List VersionRow). done ++ xs) (ap rows_of_lists c.in-None.ensures.steps.0) ∙ append-nil done) in
-    subst (λ (xs : List VersionRow). AddRead c.args.access.now c.args.current.now.positions (g.S.Selection.IsTaken c.args.selection.now) (g.S.Selection.MayLack c.args.selection.now) g.S.Selection.made xs c.args.rows.now.items c.loop-group.rows.items) all added
+    subst (λ (xs : List VersionRow). AddRead (g.S.Selection.IsTaken c.args.selection.now) (g.S.Selection.MayLack c.args.selection.now) g.S.Selection.made xs c.args.rows.now.items c.loop-group.rows.items) all added

@@ -7,4 +7,4 @@ use Rattle.script_engine.proofs.engine.reading.read_all.Given as goal
 abbrev pub invariant-loop-group : goal.invariant-loop-group
 invariant-loop-group g l =
     (done : List VersionRow) × (l.current.rows ≡ done ++ rows_of_lists l.group-iterator)
-    × AddRead l.access l.current.positions (g.S.Selection.IsTaken l.selection) (g.S.Selection.MayLack l.selection) g.S.Selection.made done l.fn.rows.items l.rows.items
+    × AddRead (g.S.Selection.IsTaken l.selection) (g.S.Selection.MayLack l.selection) g.S.Selection.made done l.fn.rows.items l.rows.items

@@ -10,4 +10,4 @@ abbrev pub invariant-loop-group : goal.invariant-loop-group
 invariant-loop-group g l =
     (done : List VersionRow)
     × (rows_of_lists (map (λ (group : Bor KeyRows). group.now) l.initial.group-iterator.rest.items) ≡ done ++ rows_of_lists (map (λ (group : Bor KeyRows). group.now) l.group-iterator.rest.items))
-    × AddRead l.access l.current.positions (g.S.Selection.IsTaken l.selection) (g.S.Selection.MayLack l.selection) g.S.Selection.made done l.fn.rows.items l.rows.items
+    × AddRead (g.S.Selection.IsTaken l.selection) (g.S.Selection.MayLack l.selection) g.S.Selection.made done l.fn.rows.items l.rows.items

@@ -1,14 +1,13 @@
-use Rattle.std.proofs.Common.{◌≡◌, ◌++◌, ◌∙◌, ℕ, List, ap, map, refl, rules, subst, true}
+use Rattle.std.proofs.Common.{◌≡◌, ◌++◌, ◌∙◌, ℕ, List, ap, map, refl, rules, subst, sym, true}
 use Rattle.std.proofs.lemmas.List.{map-id}
 use Rattle.std.specs.List.Sorted.{IsPermutation}
 use Rattle.catalog_core.specs.stored.StoredAnswers.{is_shown, shown_versions}
 use Rattle.period_core.specs.declared.version.VersionRow.{VersionRow}
 use Rattle.period_keys.specs.Current.{rows_by_key}
-use Rattle.period_keys.specs.Versions.{has_key_in}
-use Rattle.period_keys.specs.declared.key_range.KeyRange.{KeyRange}
 use Rattle.script_engine.specs.declared.engine.reading.Access.{Access}
 use Rattle.script_engine.specs.engine.Ended.{HasEnded, ended_in}
-use Rattle.script_engine.specs.engine.Reading.{positions_in, versions_in}
+use Rattle.script_engine.specs.engine.InMemory.{HaveCurrentRows}
+use Rattle.script_engine.specs.engine.Reading.{versions_in}
 use Rattle.script_engine.proofs.Seen.{all_in_memory}
 use Rattle.script_engine.proofs.StoredShown.{read_shown, shown_of_memory}
 use Rattle.script_engine.proofs.engine.stored.shown_by.Goals as goal
@@ -17,17 +16,14 @@ pub returns-clause-right : goal.returns-clause-right
 returns-clause-right c = λ d current closed.
     let query = c.args.query.now in
     let number = query.table in
-    let tables = map rows_by_key c.args.tables.now in
+    let tables = map rows_by_key c.as_slice.result.now in
+    let its : HaveCurrentRows d tables = subst (HaveCurrentRows d) (sym (ap (map rows_by_key) (c.as_slice.ensures.value ∙ c.rows_of.ensures.same))) current in
     let ended : HasEnded d number (ended_in c.args.ended.now.items number) = closed number in
     let all : List VersionRow = versions_in tables number ended.versions in
     let (some, read, made) = c.in_ok-read_chained.ensures.read ended.versions ended.held in
     let shown : List VersionRow = c.read_chained.new.rows.items in
-    let range : KeyRange = c.in_ok-range.range in
-    let positions : List ℕ = positions_in tables number in
-    let access : Access = record { window = query.window; table = number; range = range } in
-    let within : (v : VersionRow) → is_shown query v ≡ true → has_key_in positions range v ≡ true =
-    subst (λ (ps : List ℕ). (v : VersionRow) → is_shown query v ≡ true → has_key_in ps range v ≡ true) c.positions_of_number-positions.ensures c.in_ok-range.ensures in
+    let access : Access = record { window = query.window; table = number; rows = c.in_ok-rows_of.field-0 } in
     let same : shown ≡ shown_versions query all =
-    made ∙ ap (λ (l : List VersionRow). l ++ map (λ (v : VersionRow). v) some) c.new-shown.ensures.items ∙ map-id some ∙ read_shown query access positions refl within all some read in
-    shown_of_memory d query all c.sort.new.self.items (all_in_memory d tables number (ended_in c.args.ended.now.items number) current ended)
+    made ∙ ap (λ (l : List VersionRow). l ++ map (λ (v : VersionRow). v) some) c.new-shown.ensures.items ∙ map-id some ∙ read_shown query access refl c.in_ok-rows_of.ensures.left all some read in
+    shown_of_memory d query all c.sort.new.self.items (all_in_memory d tables number (ended_in c.args.ended.now.items number) its ended)
     (subst (λ (l : List VersionRow). IsPermutation l c.sort.new.self.items) same (search rules)) (search rules)

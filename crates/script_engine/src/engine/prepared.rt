@@ -1,0 +1,62 @@
+//! The rows of a table in memory that conditions leave, with the secondary index by which they are
+//! found: it is made before the first statement that asks for it.
+
+ghost use Rattle.std.specs.Prelude.{◌≡◌, IfOk};
+
+use catalog_core::Change;
+use period_core::Memory;
+use period_keys::{RowConditions, RowRange, TableIndex, prepare_plan};
+use std::alloc::Global;
+
+/// The rows of a table that conditions leave. The index by which they are found is made first, if
+/// there is to be one.
+fn rows_of_table<C: RowConditions>(
+    alloc: Global,
+    table: &mut TableIndex,
+    conditions: &C,
+) -> Result<RowRange, Memory>
+    ensures left { IfOk result (λ rows. C.IsRange conditions.now rows.positions rows.range) }
+    ensures same { table.new ≡ table.old }
+{
+    let rows = table.rows_of(alloc, conditions)?;
+    if table.rows().positions() != rows.positions.as_slice() {
+        table.prepare(alloc, conditions)?;
+    }
+    Ok(rows)
+}
+
+/// The rows of the table of a number that conditions leave, as of a table. If no table has it, they
+/// are told by no values.
+pub fn rows_left<C: RowConditions>(
+    alloc: Global,
+    tables: &mut Vec<TableIndex>,
+    number: u8,
+    conditions: &C,
+) -> Result<RowRange, Memory>
+    ensures left { IfOk result (λ rows. C.IsRange conditions.now rows.positions rows.range) }
+    ensures same { tables.new.items ≡ tables.old.items }
+{
+    if number > 0 {
+        if let Some(table) = tables.get_mut(usize::from(number) - 1) {
+            return rows_of_table(alloc, table, conditions);
+        }
+    }
+    RowRange::at(alloc, &[], conditions.range_at(alloc, &[])?)
+}
+
+/// Makes the index by which the rows are found that a change may touch, if there is to be one.
+pub fn prepare_change(
+    alloc: Global,
+    tables: &mut Vec<TableIndex>,
+    change: &Change,
+) -> Result<(), Memory>
+    ensures { tables.new.items ≡ tables.old.items }
+{
+    if change.table == 0 {
+        return Ok(());
+    }
+    match tables.get_mut(usize::from(change.table) - 1) {
+        Some(table) => prepare_plan(alloc, table, &change.action),
+        None => Ok(()),
+    }
+}
