@@ -10,7 +10,7 @@ use sqlite::{Connection, FileStore, Files};
 use sqlite_disk::{Crash, Disk};
 use std::alloc::Global;
 use std::test::Fail;
-use version_tables::{meta_rows, number_at, version_rows};
+use version_tables::{meta_rows, number_at};
 
 type InFiles = Connection<FileStore<Fused>>;
 
@@ -59,9 +59,10 @@ fn numbers_of(alloc: Global, files: &Files<Fused>) -> Result<Vec<i64>, Fail> {
         numbers.push(number_at(row, 1).ok_or("no form")?)?;
         numbers.push(number_at(row, 2).ok_or("no clock")?)?;
     }
-    for row in version_rows(&mut connection)?.as_slice() {
-        numbers.push(number_at(row, 4).ok_or("no start")?)?;
-        numbers.push(number_at(row, 5).ok_or("no end")?)?;
+    let versions = connection.query_all("SELECT ss, se FROM bt_version", &[])?;
+    for row in versions.as_slice() {
+        numbers.push(number_at(row, 0).ok_or("no start")?)?;
+        numbers.push(number_at(row, 1).ok_or("no end")?)?;
     }
     Ok(numbers)
 }

@@ -9,7 +9,7 @@ use sqlite::Connection;
 use std::alloc::Global;
 use std::test::Fail;
 use version_store::VersionStore;
-use version_tables::{Form, meta_rows, number_at, version_rows};
+use version_tables::{Form, meta_rows, number_at};
 
 type InMemory = Engine<MemoryStore>;
 
@@ -39,12 +39,12 @@ fn has_moments(
     connection: &mut Connection<MemoryStore>,
     wanted: &[(i64, i64)],
 ) -> Result<bool, Fail> {
-    let rows = version_rows(connection)?;
+    let rows = connection.query_all("SELECT ss, se FROM bt_version", &[])?;
     if rows.len() != wanted.len() {
         return Ok(false);
     }
     for (row, (from, to)) in rows.as_slice().iter().zip(wanted) {
-        if number_at(row, 4) != Some(*from) || number_at(row, 5) != Some(*to) {
+        if number_at(row, 0) != Some(*from) || number_at(row, 1) != Some(*to) {
             return Ok(false);
         }
     }
