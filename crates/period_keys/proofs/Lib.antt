@@ -39,6 +39,7 @@ pub mod Touched
 pub mod Covered
 pub mod EntryKeys
 pub mod KeysInOrder
+pub mod ByGroups
 pub mod RowsWithin
 mod KeyExamples
 mod KeyAfterExamples

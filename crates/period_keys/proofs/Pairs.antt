@@ -65,6 +65,9 @@ SomePair-nil R (i, j, lt, below, both) = omega arith
 pub SomePair-one : {X : Type 0} (R : X → X → Type 0) (x : X) → SomePair R (x ∷ []) → ⊥
 SomePair-one R x (i, j, lt, below, both) = omega arith
 
+pub SomePair-few : {X : Type 0} (R : X → X → Type 0) (xs : List X) → length xs < 2 → SomePair R xs → ⊥
+SomePair-few R xs few (i, j, before, inside, both) = omega (arith, before, inside, few)
+
 -- the place of the entry at i after a swap of a and b
 abbrev pub IsPlaceAfterSwap : ℕ → ℕ → ℕ → ℕ → Type 0
 IsPlaceAfterSwap a b i k = ((i ≡ a) × (k ≡ b)) ⊎ (((i ≡ b) × (k ≡ a)) ⊎ ((i ≡ a → ⊥) × (i ≡ b → ⊥) × (k ≡ i)))

@@ -2,7 +2,10 @@
 use Rattle.std.proofs.Common.{◌≡◌, ◌++◌, ◌∷◌, [], ◌∙◌, ◌≤◌, ℕ, Bool, true, false, cond, List, length, drop, take, filter, refl, sym, ap, subst}
 use Rattle.std.specs.Prelude.{◌||◌, IsPermutation}
 use Rattle.std.specs.List.{Contains}
+use Rattle.std.specs.BTreeMap.{BTreeMap, get}
+use Rattle.std.specs.Option.{option_map_or}
 use Rattle.std.specs.Ordering.{eq_by_cmp}
+use Rattle.std.proofs.lemmas.Bool.{false≢true}
 use Rattle.std.proofs.lemmas.List.Elements.{Contains-append_right}
 use Rattle.std.proofs.lemmas.List.Folds.{list_any-from_Any}
 use Rattle.std.proofs.lemmas.List.Sorted.{Contains-permutation, IsPermutation-sym}
@@ -12,13 +15,15 @@ use Rattle.period_core.specs.declared.value.Value.{Value}
 use Rattle.period_core.specs.declared.version.VersionRow.{VersionRow}
 use Rattle.temporal_model.proofs.Members.{Contains-here, Contains-there}
 use Rattle.period_keys.specs.declared.key_range.KeyRange.{KeyRange}
+use Rattle.period_keys.specs.declared.key_rows.KeyRows.{KeyRows}
 use Rattle.period_keys.specs.declared.row_range.RowRange.{RowRange}
 use Rattle.period_keys.specs.declared.secondary_index.SecondaryIndex.{SecondaryIndex}
 use Rattle.period_keys.specs.Ranges.{is_in_range}
-use Rattle.period_keys.specs.Rows.{RowsByKey, rows_within}
+use Rattle.period_keys.specs.Rows.{AreGrouped, RowsByKey, rows_of_groups, rows_within}
 use Rattle.period_keys.specs.Secondary.{AreRowsWithin, HasEntries, HaveEntries, is_of_some_key, keys_within}
-use Rattle.period_keys.specs.Versions.{has_key_in, version_key}
+use Rattle.period_keys.specs.Versions.{has_key_in, is_of_key, version_key}
 use Rattle.period_keys.proofs.EntryKeys.{entries_of_fewer, has_own_key}
+use Rattle.period_keys.proofs.Grouped.{each_alike, group_of_key, rows_in}
 use Rattle.period_keys.proofs.Members.{some_member}
 use Rattle.period_keys.proofs.Partly.{put_back}
 
@@ -78,3 +83,27 @@ pub entries_back : (key other : List ℕ) (old now : List VersionRow) (n : ℕ) 
     → HaveEntries key old items → HaveEntries other now (take n (new ++ drop (length new) items))
 entries_back key other old now n items given new is size same step have =
     subst (HaveEntries other now) (sym (put_back n items given new is size same)) (step (subst (HaveEntries key old) (sym is) have))
+
+-- ---- a range that has one key alone
+
+module _ (positions : List ℕ) (range : KeyRange) (key : List Value) (groups : BTreeMap (List Value) KeyRows) (grouped : AreGrouped positions groups)
+    (whole : (v : VersionRow) → has_key_in positions range v ≡ true → version_key positions v ≡ key) where
+  -- its rows are those of the key, if it has this one
+  pub rows_of_whole : is_in_range range key ≡ true → filter (has_key_in positions range) (rows_of_groups groups.entries) ≡ option_map_or rows_in (get values_cmp groups key) []
+  rows_of_whole inside =
+      kept_alike (has_key_in positions range) (is_of_key positions key) (rows_of_groups groups.entries) (λ v there. by_tests v (has_key_in positions range v) (is_of_key positions key v) refl refl)
+      ∙ group_of_key positions key groups grouped
+    where
+      by_tests : (v : VersionRow) (a b : Bool) → has_key_in positions range v ≡ a → is_of_key positions key v ≡ b → a ≡ b
+      by_tests v true true is same = refl
+      by_tests v true false is other = absurd (false≢true (sym other ∙ (values_eq key (version_key positions v)).1 (sym (whole v is))))
+      by_tests v false true is same = absurd (false≢true (sym is ∙ subst (λ (k : List Value). is_in_range range k ≡ true) ((values_eq key (version_key positions v)).0 same) inside))
+      by_tests v false false is other = refl
+
+  -- and it has no rows, if it does not
+  pub no_rows_of_whole : is_in_range range key ≡ false → filter (has_key_in positions range) (rows_of_groups groups.entries) ≡ []
+  no_rows_of_whole outside = each_alike (has_key_in positions range) false (rows_of_groups groups.entries) (λ v there. by_test v (has_key_in positions range v) refl)
+    where
+      by_test : (v : VersionRow) (b : Bool) → has_key_in positions range v ≡ b → b ≡ false
+      by_test v true is = absurd (false≢true (sym outside ∙ subst (λ (k : List Value). is_in_range range k ≡ true) (whole v is) is))
+      by_test v false is = refl

@@ -12,7 +12,7 @@ use Rattle.catalog_core.specs.declared.table.Reference.{Reference}
 use Rattle.catalog_core.specs.declared.table.TableDef.{TableDef}
 use Rattle.history_model.specs.Histories.{State}
 use Rattle.history_model.specs.Versions.{row_of}
-use Rattle.period_keys.specs.Current.{AreParentsIndexed, HaveIndexes, HoldCurrent, rows_by_key}
+use Rattle.period_keys.specs.Current.{HoldCurrent, HoldsCurrent, rows_by_key}
 use Rattle.period_keys.specs.Days.{ShareKey}
 use Rattle.period_keys.specs.Keys.{IsKeyClash, IsLeastOf, IsUncovered, values_at}
 use Rattle.period_keys.specs.Lawful.{HoldsTable, IsCoveredBy, IsLawfulState, IsLawfulTable, LacksParentBy, key_positions, own_positions, parent_positions}
@@ -126,16 +126,12 @@ pub state_unlawful : (catalog : List TableDef) (state : State) (number : ℕ) (d
     → (IsTrue false ↔ IsLawfulState catalog state)
 state_unlawful catalog state number def is law = (λ t. cc, λ lawful. law.1 (table_of_lawful catalog state number def lawful is))
 
--- a table's parents are indexed if all references are
-pub parents_indexed : (catalog : List TableDef) (tables : List TableRows) (number : ℕ) (def : TableDef) → HaveIndexes catalog tables → table_of catalog number ≡ Some def → AreParentsIndexed catalog def tables
-parents_indexed catalog tables number def have is reference there parent parent_is = (have number def is reference parent there parent_is).parents
-
 -- the rows of the table at a place hold it
 pub held_at : (catalog : List TableDef) (state : State) (tables : List TableRows) (place : ℕ) (def : TableDef) (table : TableRows) → HoldCurrent catalog state (map rows_by_key tables)
-    → table_of catalog (place + 1) ≡ Some def → table_of tables (place + 1) ≡ Some table → HoldsTable (map row_of table.rows) state (place + 1)
+    → table_of catalog (place + 1) ≡ Some def → table_of tables (place + 1) ≡ Some table → HoldsCurrent state (place + 1) def (rows_by_key table)
 held_at catalog state tables place def table hold def_is table_is =
     let (there, there_is, holds) = held_by catalog state tables (place + 1) def hold def_is in
-    subst (λ (t : TableRows). HoldsTable (map row_of t.rows) state (place + 1)) (same there table (sym there_is ∙ table_is)) holds.holds
+    subst (λ (t : TableRows). HoldsCurrent state (place + 1) def (rows_by_key t)) (same there table (sym there_is ∙ table_is)) holds
   where
     same : (x y : TableRows) → Some x ≡ Some y → x ≡ y
     same x y e = cc

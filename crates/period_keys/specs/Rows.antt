@@ -1,6 +1,8 @@
 -- A table's current version rows by key, and the groups that hold them.
 use Rattle.std.specs.Prelude.{◌≡◌, ◌++◌, ◌∷◌, [], ℕ, Contains, IsPermutation, List, filter}
 use Rattle.std.specs.List.{AllByRecursion}
+use Rattle.std.specs.List.Sorted.{IsStrictlySortedBy}
+use Rattle.std.specs.Map.{keys_of}
 use Rattle.std.specs.BTreeMap.{BTreeMap, IsOrdered}
 use Rattle.period_core.specs.Order.{values_cmp}
 use Rattle.period_core.specs.declared.value.Value.{Value}
@@ -48,3 +50,9 @@ HaveKey positions group =
 pub record AreGrouped (positions : List ℕ) (groups : BTreeMap (List Value) KeyRows) : Type 0 where
   pub ordered : IsOrdered values_cmp groups
   pub keyed : AllByRecursion (HaveKey positions) groups.entries
+
+-- the groups have the rows of a table, each in the group of its key, and the keys ascend
+pub record AreGroupsOf (table : RowsByKey) (groups : List (List Value × KeyRows)) : Type 0 where
+  pub ascending : IsStrictlySortedBy values_cmp (keys_of groups)
+  pub keyed : AllByRecursion (HaveKey table.positions) groups
+  pub rows : rows_of_groups groups ≡ table.rows

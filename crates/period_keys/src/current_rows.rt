@@ -9,13 +9,13 @@ ghost use Rattle.period_core.specs.declared.version.VersionRow.{VersionRow as Ve
 ghost use Rattle.period_keys.specs.Keys.{key_values, values_at};
 ghost use Rattle.period_keys.specs.Index.{SharesDayOfKept, periods_at};
 ghost use Rattle.period_keys.specs.Keys.{IsLeastOf};
-ghost use Rattle.period_keys.specs.Rows.{AreGrouped, HasRows, rows_of_groups};
+ghost use Rattle.period_keys.specs.Rows.{AreGrouped, AreGroupsOf, HasRows, rows_of_groups};
 ghost use Rattle.period_keys.specs.Rows.{rows_of_key, rows_of_lists, rows_within};
 ghost use Rattle.period_keys.specs.Secondary.{is_of_some_key};
 ghost use Rattle.period_keys.specs.Versions.{begun, has_key_in, period_of, recorded};
 ghost use Rattle.period_keys.specs.Versions.{version_key};
 
-use crate::groups::{Groups, add_to, take_from};
+use crate::groups::{Groups, add_to, group_at, group_within, groups_in, take_from};
 use crate::key::Key;
 use crate::key_range::KeyRange;
 use crate::key_rows::KeyRows;
@@ -23,10 +23,9 @@ use crate::keyed_periods::KeyedPeriods;
 use crate::keys::values_of;
 use period_core::{Day, Items, Memory, Moment, Period, PeriodRow, Values, VersionRow};
 use std::alloc::Global;
-use std::cmp::Ordering;
 use std::collections::{BTreeMap, btree_map};
 use std::marker::Model;
-use std::ops::Bound;
+use std::mem;
 
 /// The current version rows of one table, by the values of its key's columns. Contracts see the
 /// positions of the key's columns among a row's values, and all rows, in some order.
@@ -101,12 +100,26 @@ impl CurrentRows {
         self.groups.values()
     }
 
+    /// The rows of each key with the key, in the order of the keys.
+    pub(crate) fn by_key(&self) -> btree_map::Iter<'_, Key, KeyRows>
+        ensures { AreGroupsOf self.now result }
+    {
+        self.groups.iter()
+    }
+
     /// The rows of each key in the range, one key after another.
-    pub fn groups_within(&self, alloc: Global, range: &KeyRange) -> Result<Vec<&KeyRows>, Memory>
+    pub(crate) fn groups_within(
+        &self,
+        alloc: Global,
+        range: &KeyRange,
+    ) -> Result<Vec<&KeyRows>, Memory>
         ensures { IfOk result (λ groups. rows_of_lists (map (λ group. group.now) groups.items)
             ≡ rows_within self.now range.now) }
     {
-        groups_in(alloc, &self.groups, range)
+        match range.whole_key(self.positions.as_slice()) {
+            Some(key) => group_within(alloc, &self.groups, range, key),
+            None => groups_in(alloc, &self.groups, range),
+        }
     }
 
     /// The rows of each of these keys, one key after another.
@@ -136,6 +149,27 @@ impl CurrentRows {
     {
         let key = values_of(alloc, self.positions.as_slice(), row.values.as_slice())?;
         add_to(alloc, &mut self.groups, &key, row)
+    }
+
+    /// Adds rows. Every other one is added first: so nodes of the map, which come half full of keys
+    /// that ascend, are then filled.
+    pub fn add_each(&mut self, alloc: Global, rows: Vec<VersionRow>) -> Result<(), Memory>
+        ensures { OnOk result (HasRows (rows.items ++ self.old.rows) self.old self.new) }
+    {
+        let (first, second) = every_other(alloc, rows)?;
+        self.add_list(alloc, first)?;
+        self.add_list(alloc, second)?;
+        Ok(())
+    }
+
+    // Adds rows, one after the other.
+    fn add_list(&mut self, alloc: Global, rows: Vec<VersionRow>) -> Result<(), Memory>
+        ensures { OnOk result (HasRows (rows.items ++ self.old.rows) self.old self.new) }
+    {
+        for row in rows {
+            self.add(alloc, row)?;
+        }
+        Ok(())
     }
 
     /// Removes a row of this key, with these values, this period and this system time, which is
@@ -241,36 +275,19 @@ impl CurrentRows {
     }
 }
 
-// The group of a key. The last key is looked at first, since many rows come in the
-// order of their keys, each with a key above all earlier ones.
-fn group_at<'a>(groups: &'a Groups, key: &Key) -> Option<&'a KeyRows>
-    ensures { option_copied result ≡ get_by (values_cmp key.now) groups.now }
-{
-    match groups.last_key_value() {
-        Some((last, _)) if last.cmp(key) == Ordering::Less => None,
-        _ => groups.get(key),
-    }
-}
-
-// The groups of the keys in the range. In the order of keys they are next to each other: no key
-// after the first values that is neither in the range nor passed over has one after it that is.
-fn groups_in<'a>(
+// The rows in two lists, which take turns.
+fn every_other(
     alloc: Global,
-    groups: &'a Groups,
-    range: &KeyRange,
-) -> Result<Vec<&'a KeyRows>, Memory>
-    ensures { IfOk result (λ found. (positions : List ℕ) → AreGrouped positions groups.now
-        → rows_of_lists (map (λ group. group.now) found.items)
-        ≡ filter (has_key_in positions range.now) (rows_of_groups groups.now.entries)) }
+    rows: Vec<VersionRow>,
+) -> Result<(Vec<VersionRow>, Vec<VersionRow>), Memory>
+    ensures { IfOk result (λ found. IsPermutation (found.0.items ++ found.1.items) rows.items) }
 {
-    let first = range.first(alloc)?;
-    let mut found = Vec::new(alloc);
-    for (key, group) in groups.range((Bound::Included(&first), Bound::Unbounded)) {
-        if range.has(key) {
-            found.push(group)?;
-        } else if !range.passes_over(key) {
-            return Ok(found);
-        }
+    let half = rows.len() / 2 + 1;
+    let mut first = Vec::with_capacity(alloc, half)?;
+    let mut second = Vec::with_capacity(alloc, half)?;
+    for row in rows {
+        first.push(row)?;
+        mem::swap(&mut first, &mut second);
     }
-    Ok(found)
+    Ok((first, second))
 }

@@ -1,7 +1,7 @@
 //! The least day on which a change would break a table's key or a reference, judged by the rows
 //! that its plan touches.
 
-ghost use Rattle.std.specs.Prelude.{◌≡◌, ◌++◌, ℕ, IfOk, List, OnOk, map};
+ghost use Rattle.std.specs.Prelude.{◌≡◌, ℕ, IfOk, List, map};
 ghost use Rattle.period_core.specs.declared.version.VersionRow.{VersionRow as Version};
 ghost use Rattle.catalog_core.specs.declared.change.Change.{Change as ChangeModel};
 ghost use Rattle.catalog_core.specs.declared.table.Reference.{Reference};
@@ -93,34 +93,11 @@ pub fn rows_of(alloc: Global, versions: &[VersionRow]) -> Result<Vec<PeriodRow>,
     ensures { IfOk result (λ rows. rows.items ≡ map row_of versions.now) }
 {
     let mut rows = Vec::new(alloc);
-    push_rows(alloc, &mut rows, versions)?;
-    Ok(rows)
-}
-
-/// The rows of a table's current versions, without their system time.
-pub fn rows_of_current(alloc: Global, current: &CurrentRows) -> Result<Vec<PeriodRow>, Memory>
-    ensures { IfOk result (λ rows. rows.items ≡ map row_of current.now.rows) }
-{
-    let mut rows = Vec::new(alloc);
-    for group in current.groups() {
-        push_rows(alloc, &mut rows, group.as_slice())?;
-    }
-    Ok(rows)
-}
-
-// Adds the versions without their system time.
-fn push_rows(
-    alloc: Global,
-    rows: &mut Vec<PeriodRow>,
-    versions: &[VersionRow],
-) -> Result<(), Memory>
-    ensures { OnOk result (rows.new.items ≡ rows.old.items ++ map row_of versions.now) }
-{
     for version in versions {
         rows.push(PeriodRow {
             values: version.values.copy(alloc)?,
             period: version.period,
         })?;
     }
-    Ok(())
+    Ok(rows)
 }

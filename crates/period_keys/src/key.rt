@@ -47,6 +47,22 @@ impl Key {
         }
     }
 
+    /// The key of these values.
+    pub(crate) fn of(alloc: Global, values: &[Value]) -> Result<Key, Memory>
+        ensures { IfOk result (λ key. key ≡ values.now) }
+    {
+        match values {
+            [Value::Int(number), others @ ..] => {
+                let rest = copies_of(alloc, others)?;
+                Ok(Key::with_leading(*number, Values::from_vec(rest)))
+            }
+            _ => {
+                let all = copies_of(alloc, values)?;
+                Ok(Key::from_vec(all))
+            }
+        }
+    }
+
     /// The key of an integer and the values after it.
     pub(crate) fn with_leading(number: i64, rest: Values) -> Key
         ensures { result ≡ Int number ∷ rest }
@@ -137,15 +153,23 @@ impl Key {
     }
 }
 
+/// Copies of the values.
+pub fn copies_of(alloc: Global, values: &[Value]) -> Result<Vec<Value>, Memory>
+    ensures { IfOk result (λ own. own.items ≡ values.now) }
+{
+    let mut own = Vec::with_capacity(alloc, values.len())?;
+    for value in values {
+        own.push(value.copy(alloc)?)?;
+    }
+    Ok(own)
+}
+
 // The key of the values after the first `count`.
 fn key_from(alloc: Global, values: &[Value], count: usize) -> Result<Key, Memory>
     ensures { IfOk result (λ key. key ≡ drop count values.now) }
 {
-    let mut own = Vec::new(alloc);
-    for i in count..values.len() {
-        own.push(values[i].copy(alloc)?)?;
-    }
-    Ok(Key::from_vec(own))
+    let from = count.min(values.len());
+    Key::of(alloc, values.split_at(from).1)
 }
 
 // Whether there is a value at a place that compares so with this one.

@@ -8,7 +8,7 @@ ghost use Rattle.period_keys.specs.Keys.{values_at};
 ghost use Rattle.period_keys.specs.Ranges.{first_values, is_above, is_at_lower, is_below};
 ghost use Rattle.period_keys.specs.Ranges.{is_in_range, is_passed_over, limit_of, limit_values};
 
-use crate::key::Key;
+use crate::key::{Key, copies_of};
 use period_core::{Memory, Value};
 use sql_statements::Comparison;
 use std::alloc::Global;
@@ -49,7 +49,7 @@ pub struct KeyRange {
 
 impl KeyRange {
     /// All keys.
-    pub fn all(alloc: Global) -> KeyRange
+    pub(crate) fn all(alloc: Global) -> KeyRange
         ensures { (key : List ColumnValue) → is_in_range result key ≡ true }
     {
         KeyRange::led_by(Vec::new(alloc))
@@ -111,10 +111,7 @@ impl KeyRange {
     pub(crate) fn first(&self, alloc: Global) -> Result<Key, Memory>
         ensures { IfOk result (λ first. first ≡ first_values self.now) }
     {
-        let mut values = Vec::new(alloc);
-        for value in &self.leading {
-            values.push(value.copy(alloc)?)?;
-        }
+        let mut values = copies_of(alloc, self.leading.as_slice())?;
         push_limit(alloc, &self.lower, &mut values)?;
         Ok(Key::from_vec(values))
     }

@@ -1,21 +1,21 @@
 //! Whether rows in memory hold a lawful state: on no day do two rows of a table share its key, and
-//! each row has its parents.
+//! each row has its parents. The rows are judged where they are: no list of them is made.
 
-ghost use Rattle.std.specs.Prelude.{◌≡◌, ◌↔◌, ℕ, Contains, IfOk, IsTrue, length, map};
+ghost use Rattle.std.specs.Prelude.{◌≡◌, ◌↔◌, ℕ, Contains, IfOk, IsTrue, Some, length, map};
+ghost use Rattle.catalog_core.specs.table.TableWords.{table_of};
 ghost use Rattle.history_model.specs.Histories.{State};
-ghost use Rattle.period_keys.specs.Current.{AreParentsIndexed, HaveIndexes, HoldCurrent};
-ghost use Rattle.period_keys.specs.Current.{rows_by_key};
-ghost use Rattle.period_keys.specs.Lawful.{HoldsTable, IsCoveredBy, IsLawfulState};
-ghost use Rattle.period_keys.specs.Lawful.{IsLawfulTable};
+ghost use Rattle.period_keys.specs.Current.{AreReferencesIndexed, HaveIndexes, HoldCurrent};
+ghost use Rattle.period_keys.specs.Current.{HoldsCurrent, rows_by_key};
+ghost use Rattle.period_keys.specs.Lawful.{IsCoveredBy, IsLawfulState, IsLawfulTable};
 
-use crate::faults::rows_of_current;
+use crate::current_rows::CurrentRows;
 use crate::positions::positions_of;
 use crate::reference_faults::periods_by;
-use crate::references::uncovered_by_children;
+use crate::references::uncovered_by_periods;
+use crate::sweep::current_rows_clash;
 use crate::table_index::TableIndex;
-use crate::tables::key_clash;
 use catalog_core::{Catalog, Reference, TableDef, of_number};
-use period_core::{Memory, PeriodRow};
+use period_core::Memory;
 use std::alloc::Global;
 
 /// Whether the rows of all tables hold a lawful state.
@@ -28,56 +28,58 @@ pub fn is_lawful(alloc: Global, catalog: &Catalog, tables: &[TableIndex]) -> Res
 {
     let definitions = catalog.tables.as_slice();
     for place in 0..definitions.len() {
-        let rows = rows_of_current(alloc, tables[place].rows())?;
+        let rows = tables[place].rows();
         let table = &definitions[place];
-        if !is_table_lawful(alloc, definitions, tables, table, rows.as_slice())? {
+        if !is_table_lawful(alloc, definitions, tables, place + 1, table, rows)? {
             return Ok(false);
         }
     }
     Ok(true)
 }
 
-// Whether no two of the table's rows share its key on a day, and each has its parents.
+// Whether no two rows of the table of a number share its key on a day, and each has its parents.
 fn is_table_lawful(
     alloc: Global,
     definitions: &[TableDef],
     tables: &[TableIndex],
+    number: usize,
     table: &TableDef,
-    rows: &[PeriodRow],
+    rows: &CurrentRows,
 ) -> Result<bool, Memory>
-    requires { AreParentsIndexed definitions.now table.now tables.now }
-    ensures { IfOk result (λ lawful. (state : State) (number : ℕ)
+    requires indexed { AreReferencesIndexed definitions.now tables.now number table.now }
+    requires table { table_of definitions.now number ≡ Some table.now }
+    ensures { IfOk result (λ lawful. (state : State)
         → HoldCurrent definitions.now state (map rows_by_key tables.now)
-        → HoldsTable rows.now state number
+        → HoldsCurrent state number table.now rows.now
         → (IsTrue lawful ↔ IsLawfulTable definitions.now state number table.now)) }
 {
-    let clash = key_clash(alloc, table, rows)?;
+    let clash = current_rows_clash(alloc, rows)?;
     if clash.is_some() {
         return Ok(false);
     }
     let references = table.references.as_slice();
     for reference in references {
-        if !is_covered(alloc, definitions, tables, table, rows, reference)? {
+        if !is_covered(alloc, definitions, tables, number, table, reference)? {
             return Ok(false);
         }
     }
     Ok(true)
 }
 
-// Whether each of the table's rows has its parent by this reference.
+// Whether each row of the table of a number has its parent by this reference.
 fn is_covered(
     alloc: Global,
     definitions: &[TableDef],
     tables: &[TableIndex],
+    number: usize,
     child: &TableDef,
-    rows: &[PeriodRow],
     reference: &Reference,
 ) -> Result<bool, Memory>
-    requires indexed { AreParentsIndexed definitions.now child.now tables.now }
+    requires indexed { AreReferencesIndexed definitions.now tables.now number child.now }
+    requires child { table_of definitions.now number ≡ Some child.now }
     requires reference { Contains child.now.references reference.now }
-    ensures { IfOk result (λ covered. (state : State) (number : ℕ)
+    ensures { IfOk result (λ covered. (state : State)
         → HoldCurrent definitions.now state (map rows_by_key tables.now)
-        → HoldsTable rows.now state number
         → (IsTrue covered
         ↔ IsCoveredBy definitions.now state number child.now reference.now)) }
 {
@@ -86,7 +88,8 @@ fn is_covered(
     };
     let own = positions_of(alloc, child, reference.own.as_slice())?;
     let keys = positions_of(alloc, parent, reference.keys.as_slice())?;
+    let children = periods_by(tables, number, own.as_slice());
     let parents = periods_by(tables, usize::from(reference.parent), keys.as_slice());
-    let found = uncovered_by_children(alloc, own.as_slice(), rows, &parents)?;
+    let found = uncovered_by_periods(alloc, &children, &parents)?;
     Ok(found.is_none())
 }

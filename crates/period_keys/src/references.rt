@@ -1,16 +1,18 @@
-//! The least day on which a child has no parent after a change, judged by the rows that the change
-//! touches.
+//! The least day on which a child has no parent: after a change, judged by the rows that the change
+//! touches, or of two tables.
 
-ghost use Rattle.std.specs.Prelude.{◌++◌, ℕ, IfOk, IsPermutation, List};
+ghost use Rattle.std.specs.Prelude.{◌++◌, ℕ, IfOk, IsPermutation, List, map};
 ghost use Rattle.std.specs.List.{Any};
 ghost use Rattle.period_core.specs.declared.period.Period.{Period as PeriodModel};
 ghost use Rattle.period_core.specs.declared.row.PeriodRow.{PeriodRow as Row};
+ghost use Rattle.history_model.specs.Versions.{row_of};
 ghost use Rattle.period_keys.specs.Keys.{IsEachCovered, IsLeastOf, IsUncovered};
 ghost use Rattle.period_keys.specs.Index.{AreAtKeys, IsIndexOf};
 ghost use Rattle.period_keys.specs.Gaps.{LacksKeyOf};
 ghost use Rattle.period_keys.specs.LookUps.{periods_by, periods_of};
 
 use crate::clashes::index_of;
+use crate::current_rows::CurrentRows;
 use crate::gaps::{first_gap, first_gap_of_some};
 use crate::keyed_periods::KeyedPeriods;
 use crate::keys::key_of;
@@ -112,6 +114,44 @@ fn least_lack_of_keys(
             found,
             first_gap_of_some(&parents.of_key(key), children.of_key(key)),
         );
+    }
+    Ok(found)
+}
+
+/// The least day on which a child has no parent, by the periods of both tables by the columns of
+/// the reference.
+pub fn uncovered_by_periods(
+    alloc: Global,
+    children: &PeriodsByKey,
+    parents: &PeriodsByKey,
+) -> Result<Option<Day>, Memory>
+    ensures { IfOk result (λ found. (own : List ℕ) (rows : List Row)
+        → AreAtKeys own rows (periods_by children.now)
+        → IsLeastOf (LacksKeyOf own rows (periods_by parents.now)) found) }
+{
+    match children {
+        PeriodsByKey::Index(index) => least_lack_of_keys(alloc, *index, parents),
+        PeriodsByKey::OfRows(current) => {
+            let found = least_lack_of_rows(alloc, *current, parents)?;
+            Ok(found)
+        }
+    }
+}
+
+// The least day on which a child has no parent, by the rows of the children, whose key names it.
+fn least_lack_of_rows(
+    alloc: Global,
+    children: &CurrentRows,
+    parents: &PeriodsByKey,
+) -> Result<Option<Day>, Memory>
+    ensures { IfOk result (IsLeastOf (LacksKeyOf children.now.positions
+        (map row_of children.now.rows) (periods_by parents.now))) }
+{
+    let mut found = None;
+    for (key, group) in children.by_key() {
+        let periods = PeriodsOfKey::OfGroup(group).collect(alloc)?;
+        let gap = first_gap_of_some(&parents.of_key(key), periods.as_slice());
+        found = earlier(found, gap);
     }
     Ok(found)
 }

@@ -3,7 +3,7 @@
 ghost use Rattle.std.specs.Prelude.{◌≡◌, ◌↔◌, IsTrue};
 
 use crate::key::Key;
-use period_core::{Day, Period, PeriodRow};
+use period_core::{Day, Period};
 use std::cmp::Ordering;
 use std::marker::Model;
 
@@ -24,14 +24,11 @@ impl<'a> Model for RowKey<'a> {
 }
 
 impl<'a> RowKey<'a> {
-    /// The key of a row, which is given with it.
-    pub fn new(key: &'a Key, row: &PeriodRow) -> RowKey<'a>
-        ensures { result ≡ record { values = key.now; period = row.now.period } }
+    /// The key of a row, over its period.
+    pub fn new(key: &'a Key, period: Period) -> RowKey<'a>
+        ensures { result ≡ record { values = key.now; period = period } }
     {
-        RowKey {
-            key,
-            period: row.period,
-        }
+        RowKey { key, period }
     }
 
     /// Whether the keys are the same.

@@ -7,14 +7,15 @@ ghost use Rattle.period_keys.specs.Versions.{has_key_in, version_key};
 
 use crate::fixed_keys::{ColumnTest, range_of_key};
 use crate::key_range::KeyRange;
-use period_core::{Items, Memory, Value};
+use crate::positions::Positions;
+use period_core::{Memory, Value};
 use sql_statements::Tree;
 use std::alloc::Global;
 
 /// The rows of a table whose values at the positions are in the range.
 #[derive(Drop)]
 pub struct RowRange {
-    pub positions: Items<usize>,
+    pub positions: Positions,
     pub range: KeyRange,
 }
 
@@ -25,7 +26,7 @@ impl RowRange {
             → has_key_in result.positions result.range version ≡ true }
     {
         RowRange {
-            positions: Items::empty(alloc),
+            positions: Positions::none(alloc),
             range: KeyRange::all(alloc),
         }
     }
@@ -35,12 +36,8 @@ impl RowRange {
         ensures positions { IfOk result (λ rows. rows.positions ≡ positions.now) }
         ensures range { IfOk result (λ rows. rows.range ≡ range) }
     {
-        let mut own = Vec::new(alloc);
-        own.extend_from_slice(positions)?;
-        Ok(RowRange {
-            positions: Items::from_vec(own),
-            range,
-        })
+        let positions = Positions::of(alloc, positions)?;
+        Ok(RowRange { positions, range })
     }
 
     /// The key at these positions, if each of the rows has this one.

@@ -35,17 +35,19 @@ impl SecondaryIndex {
     /// An index of a table's current rows by their values at these positions.
     pub fn of(
         alloc: Global,
-        positions: Items<usize>,
+        positions: &[usize],
         current: &CurrentRows,
     ) -> Result<SecondaryIndex, Memory>
-        ensures positions { IfOk result (λ index. index.positions ≡ positions) }
+        ensures positions { IfOk result (λ index. index.positions ≡ positions.now) }
         ensures entries { IfOk result (HasEntries current.now.positions current.now.rows) }
     {
         let mut entry = Vec::new(alloc);
-        entry.extend_from_slice(positions.as_slice())?;
+        entry.extend_from_slice(positions)?;
         entry.extend_from_slice(current.positions())?;
+        let mut own = Vec::new(alloc);
+        own.extend_from_slice(positions)?;
         let mut index = SecondaryIndex {
-            positions,
+            positions: Items::from_vec(own),
             entry_positions: Items::from_vec(entry),
             entries: BTreeMap::new(alloc),
         };

@@ -1,19 +1,22 @@
-//! The least day on which two rows of a whole list share a key: the keys with the rows' periods are
-//! sorted, and each is compared with the earlier period of its key that ends latest.
+//! The least day on which two rows of a whole list, or of a table, share a key: the keys with the
+//! rows' periods are sorted, and each is compared with the earlier period of its key that ends
+//! latest. Of a table the rows of each key are looked at by themselves.
 
-ghost use Rattle.std.specs.Prelude.{◌≡◌, ◌↔◌, ◌<◌, ◌≤ℤ◌, ◌⊎◌, ℕ, AllPairs, IfOk, IsTrue, List};
-ghost use Rattle.std.specs.Prelude.{length, map};
+ghost use Rattle.std.specs.Prelude.{◌≡◌, ◌↔◌, ◌<◌, ◌≤ℤ◌, ◌⊎◌, [], ℕ, AllPairs, IfOk, IsTrue};
+ghost use Rattle.std.specs.Prelude.{List, length, map};
 ghost use Rattle.period_core.specs.declared.row.PeriodRow.{PeriodRow as Row};
 ghost use Rattle.coalesce_core.specs.Coalesced.{NotAfter};
+ghost use Rattle.history_model.specs.Versions.{row_of};
 ghost use Rattle.period_keys.specs.Keys.{IsKeyClash, IsLeastOf, key_values};
 ghost use Rattle.period_keys.specs.Repeats.{EndsByThen, EndsLater, IsReachedOn};
 ghost use Rattle.period_keys.specs.Repeats.{Reaches, Repeats, key_row};
 
 use crate::changes::keys_of;
+use crate::current_rows::CurrentRows;
 use crate::key::Key;
 use crate::row_key::RowKey;
 use crate::shared_days::earlier;
-use period_core::{Day, Memory, PeriodRow};
+use period_core::{Day, Memory, PeriodRow, VersionRow};
 use std::alloc::Global;
 
 /// The least day on which two of the rows share their values at these positions.
@@ -30,6 +33,46 @@ pub fn rows_clash(
     }
     let keys = keys_of(alloc, positions, rows)?;
     least_repeat(row_keys(alloc, keys.as_slice(), rows)?)
+}
+
+/// The least day on which two of a table's current rows share its key. No values are copied.
+pub fn current_rows_clash(alloc: Global, current: &CurrentRows) -> Result<Option<Day>, Memory>
+    ensures { IfOk result
+        (IsLeastOf (IsKeyClash current.now.positions (map row_of current.now.rows))) }
+{
+    let mut found = None;
+    for (_, group) in current.by_key() {
+        found = earlier(found, day_of_two(alloc, group.as_slice())?);
+    }
+    Ok(found)
+}
+
+// The least day on which two of the versions hold. They count as of one key.
+fn day_of_two(alloc: Global, versions: &[VersionRow]) -> Result<Option<Day>, Memory>
+    ensures { IfOk result (IsLeastOf (IsKeyClash [] (map row_of versions.now))) }
+{
+    if versions.len() < 2 {
+        return Ok(None);
+    }
+    let none = Key::from_vec(Vec::new(alloc));
+    least_repeat(keys_of_one(alloc, &none, versions)?)
+}
+
+// The key of no values with the period of each version.
+fn keys_of_one<'a>(
+    alloc: Global,
+    none: &'a Key,
+    versions: &[VersionRow],
+) -> Result<Vec<RowKey<'a>>, Memory>
+    requires { none.now ≡ [] }
+    ensures { IfOk result (λ keyed.
+        keyed.items ≡ map (key_row []) (map row_of versions.now)) }
+{
+    let mut keyed = Vec::with_capacity(alloc, versions.len())?;
+    for version in versions {
+        keyed.push(RowKey::new(none, version.period))?;
+    }
+    Ok(keyed)
 }
 
 /// The least day on which two of the rows share their keys.
@@ -53,7 +96,7 @@ pub fn row_keys<'a>(
 {
     let mut keyed = Vec::with_capacity(alloc, rows.len())?;
     for i in 0..rows.len() {
-        keyed.push(RowKey::new(&keys[i], &rows[i]))?;
+        keyed.push(RowKey::new(&keys[i], rows[i].period))?;
     }
     Ok(keyed)
 }

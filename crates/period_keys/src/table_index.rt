@@ -133,11 +133,19 @@ impl TableIndex {
             return Ok(());
         }
         let rows = self.rows_of(alloc, conditions)?;
+        self.prepare_for(alloc, &rows)
+    }
+
+    /// Makes the secondary index by which `groups_of` finds rows that were told by `rows_of`, if
+    /// there is to be one, and it is not there yet.
+    pub fn prepare_for(&mut self, alloc: Global, rows: &RowRange) -> Result<(), Memory>
+        ensures { self.new ≡ self.old }
+    {
         let positions = rows.positions.as_slice();
         if self.rows.positions() == positions || self.secondary_at(positions).is_some() {
             return Ok(());
         }
-        let index = SecondaryIndex::of(alloc, rows.positions, &self.rows)?;
+        let index = SecondaryIndex::of(alloc, positions, &self.rows)?;
         self.secondary.push(index)?;
         Ok(())
     }

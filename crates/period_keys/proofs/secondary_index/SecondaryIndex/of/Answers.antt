@@ -15,7 +15,7 @@ loop-group-preserved c =
       joined = c.add_versions.ensures.more.entry_positions ∙ inv.joined;
       done = inv.done ++ rows;
       split = inv.split ∙ ap (λ (xs : List VersionRow). inv.done ++ xs) left ∙ sym (append_assoc inv.done rows (rows_of_lists c.next.new.self));
-      seen = seen_both c.loop-group.index c.add_versions.new.self inv.done c.as_slice-in-loop-group.result.now rows c.add_versions.ensures.more c.as_slice-in-loop-group.ensures inv.seen c.in_ok-add_versions.ensures.added;
+      seen = seen_both c.loop-group.index c.add_versions.new.self inv.done c.as_slice.result.now rows c.add_versions.ensures.more c.as_slice.ensures inv.seen c.in_ok-add_versions.ensures.added;
     }
 
 pub returns-clause-entries : goal.returns-clause-entries

@@ -8,8 +8,8 @@ use Rattle.period_keys.proofs.secondary_index.SecondaryIndex.of.Given as goal
 
 abbrev pub invariant-loop-group : goal.invariant-loop-group
 invariant-loop-group l = record {
-  positions : l.index.positions ≡ l.fn.positions;
-  joined : l.index.entry_positions ≡ l.fn.positions ++ l.current.positions;
+  positions : l.index.positions ≡ l.positions;
+  joined : l.index.entry_positions ≡ l.positions ++ l.current.positions;
   done : List VersionRow;
   split : l.current.rows ≡ done ++ rows_of_lists l.group-iterator;
   seen : (v : VersionRow) → Contains done v → Contains (entries_of l.index) (version_key l.index.entry_positions v);

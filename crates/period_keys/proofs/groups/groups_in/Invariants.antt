@@ -8,7 +8,7 @@ use Rattle.period_keys.specs.declared.key_rows.KeyRows.{KeyRows}
 use Rattle.period_keys.specs.Ranges.{first_values}
 use Rattle.period_keys.proofs.Grouped.{Entries}
 use Rattle.period_keys.proofs.Ranged.{is_in}
-use Rattle.period_keys.proofs.current_rows.groups_in.Given as goal
+use Rattle.period_keys.proofs.groups.groups_in.Given as goal
 
 abbrev pub invariant-loop-key : goal.invariant-loop-key
 invariant-loop-key l =

@@ -9,7 +9,7 @@ use Rattle.period_keys.specs.declared.key_rows.KeyRows.{KeyRows}
 use Rattle.period_keys.specs.Rows.{rows_of_lists}
 use Rattle.period_keys.proofs.Grouped.{Entries, lists_of_groups}
 use Rattle.period_keys.proofs.Ranged.{found_in, in_more, is_in, out_more}
-use Rattle.period_keys.proofs.current_rows.groups_in.Goals as goal
+use Rattle.period_keys.proofs.groups.groups_in.Goals as goal
 
 abbrev now_of : Bor KeyRows → KeyRows
 now_of group = group.now
