@@ -1,7 +1,8 @@
 //! The database of a copy, as it is written: the three tables with a clock, the definitions, and
 //! the versions as they are, with their system times.
 
-ghost use Rattle.std.specs.Prelude.{◌≡◌, ◌+◌, ◌≤◌, ◌∷◌, [], false, length, true, OnOk};
+ghost use Rattle.std.specs.Prelude.{◌≡◌, ◌≢◌, ◌+◌, ◌≤◌, ◌∷◌, [], false, length, true};
+ghost use Rattle.std.specs.Prelude.{OnOk};
 ghost use Rattle.catalog_core.specs.Limits.{most_tables};
 ghost use Rattle.sqlite.specs.Held.{state};
 ghost use Rattle.version_tables.specs.Steps.{CommitsNothing};
@@ -11,6 +12,7 @@ ghost use Rattle.version_store.specs.Copies.{CommitsMore, HasCommitted, with_tab
 ghost use Rattle.version_store.specs.Copies.{without_versions};
 ghost use Rattle.version_store.specs.Steps.{Carries, Commits};
 ghost use Rattle.version_store.specs.StoreState.{IsUsable};
+ghost use Rattle.version_store.specs.declared.fault.StoreFault.TheVariants.{Database as Failed};
 
 use crate::fault::StoreFault;
 use crate::transactions::write_table;
@@ -137,6 +139,9 @@ pub(crate) fn begin_copy<S: Alter>(
     ensures made { IsUsable S.Store connection.new
         → OnOk result (HasCommitted S.Store connection.new
         (without_versions catalog.now.tables clock)) }
+    ensures new { OnOk result ((state S.Store connection.old).now.schema ≡ no_schema) }
+    ensures not_new { (state S.Store connection.old).now.schema ≢ no_schema
+        → result ≡ Err Failed }
     ensures usable { IsUsable S.Store connection.new → IsUsable S.Store connection.old }
     ensures mode { connection.new.in_transaction ≡ false }
 {

@@ -1,6 +1,9 @@
 //! A copy of a store in another database.
 
-ghost use Rattle.std.specs.Prelude.{◌≡◌, ◌+◌, ℕ, false, IfErr, OnOk};
+ghost use Rattle.std.specs.Prelude.{◌≡◌, ◌≢◌, ◌+◌, ℕ, false, IfErr, OnOk};
+ghost use Rattle.period_core.specs.declared.refusal.Refusal.TheVariants.{Store as StoreRefusal};
+ghost use Rattle.sqlite.specs.Held.{state};
+ghost use Rattle.version_tables.specs.Tables.{no_schema};
 ghost use Rattle.version_store.specs.Contents.{Contents};
 ghost use Rattle.version_store.specs.Copies.{HasCommitted, up_to};
 ghost use Rattle.version_store.specs.GoodStore.{HaveTables};
@@ -54,6 +57,9 @@ impl<S: Alter> VersionStore<S> {
         ensures copied { IsUsable S.Store self.new.connection → IsUsable T.Store copy.new
             → (c : Contents) → HaveTables c → StoreRepresents S.Store self.old c
             → OnOk result (HasCommitted T.Store copy.new c) }
+        ensures new { OnOk result ((state T.Store copy.old).now.schema ≡ no_schema) }
+        ensures not_new { (state T.Store copy.old).now.schema ≢ no_schema
+            → result ≡ Err StoreRefusal }
         ensures mode { copy.new.in_transaction ≡ false }
         ensures copy_usable { IsUsable T.Store copy.new → IsUsable T.Store copy.old }
         ensures same { IsUsable S.Store self.new.connection

@@ -236,7 +236,8 @@ impl<S: Alter> VersionStore<S> {
 
     /// Closes the store and opens it again, with the same tables, clock and versions. A store whose
     /// contents are good is not refused as a bad one, and for nothing but memory and faults of its
-    /// database.
+    /// database. On `Err`, 60, 61 or 62, nothing is changed, the connection is returned, and no
+    /// transaction is open on it.
     pub fn reopen(
         self,
         alloc: Global,
@@ -251,6 +252,10 @@ impl<S: Alter> VersionStore<S> {
             → (c : Contents) → StoreRepresents S.Store self c → AreGood NoExtraCondition c
             → (failed.0 ≢ BadStore)
             × IsFailure S.Store self.connection failed.1 failed.0) }
+        ensures none { IfErr result (λ failed. IsUsable S.Store failed.1
+            → IsAsBefore (state S.Store self.connection) (state S.Store failed.1)) }
+        ensures settled { IfErr result (λ failed. failed.1.in_transaction ≡ false) }
+        ensures named { IfErr result (λ failed. IsOpenRefusal failed.0) }
     {
         let connection = self.close();
         // For the proof alone: while a connection is open, no two rows share a key.
