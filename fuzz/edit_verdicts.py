@@ -81,11 +81,9 @@ class Trial:
                 yield path, Verdict(BAD, why)
             else:
                 edits.append(edit_places.edit_of(path, texts, self.sources, self.folder))
-        left = [edit for edit in edits if self.paths_of(edit)]
-        for edit in edits:
-            if edit not in left:
-                yield edit.path, self.try_one(edit)
-        batches = edit_places.batches_of(left, MOST_AT_ONCE, lambda one, other: one.clashes(other))
+        of_bodies = [edit for edit in edits if self.paths_of(edit)]
+        batches = edit_places.batches_of(
+            of_bodies, MOST_AT_ONCE, lambda one, other: one.clashes(other))
         while batches:
             open_ones = []
             for batch in batches:
@@ -98,6 +96,9 @@ class Trial:
                         open_ones.append(edit)
             batches = edit_places.batches_of(
                 open_ones, MOST_AT_ONCE, lambda one, other: one.meets(other, self.sources))
+        for edit in edits:
+            if edit not in of_bodies:
+                yield edit.path, self.try_one(edit)
 
     def paths_of(self, edit: Edit) -> list[str]:
         """The paths, as a check prints them, of the functions of an edit; none if it is not of
