@@ -10,6 +10,7 @@ next to it.
 from __future__ import annotations
 
 import functools
+import importlib.machinery
 import importlib.util
 import pathlib
 import shutil
@@ -33,6 +34,21 @@ def module() -> Any:
     # (each crate's files are read once, and not once for each crate above it)
     rtlib.Crate.stamp = functools.cache(rtlib.Crate.stamp)
     return rtlib
+
+
+def gate() -> Any:
+    """The command `rt` as a module: what it adds to the one above is the gate, and how that judges
+    an edit."""
+    rt = shutil.which('rt')
+    if rt is None:
+        raise FileNotFoundError('there is no `rt` on the path')
+    loader = importlib.machinery.SourceFileLoader('rt_gate', str(pathlib.Path(rt).resolve()))
+    spec = importlib.util.spec_from_loader(loader.name, loader)
+    if spec is None:
+        raise ImportError('`rt` is no module')
+    made: Any = importlib.util.module_from_spec(spec)
+    loader.exec_module(made)
+    return made
 
 
 class Library:
