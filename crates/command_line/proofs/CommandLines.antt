@@ -9,7 +9,7 @@ use Rattle.std.specs.Prelude.{Box, option_map, unwrap_or}
 use Rattle.std.specs.Box.{box_value}
 use Rattle.std.proofs.lemmas.Option.{same_Some}
 use Rattle.clap.proofs.OnLiterals.{clap_on_literals}
-use Rattle.command_line.specs.CommandLine.{IsCommandLineFor, AuditsFile, Chooses, IsMode, bitemporal, has_hyphen}
+use Rattle.command_line.specs.CommandLine.{IsCommandLineFor, AuditsFile, CallsFor, Chooses, IsMode, IsReadAs, bitemporal, has_hyphen}
 use Rattle.command_line.specs.declared.command.Mode.{Mode}
 use Rattle.command_line.specs.declared.command.Mode.TheVariants.{Run, RunAudited, Check}
 
@@ -21,10 +21,6 @@ is_simple_and_free-bitemporal = refl
 is_simple-bitemporal : is_simple bitemporal ≡ true
 unfolding clap_on_literals
 is_simple-bitemporal = refl
-
--- clap finds no fault in the line, and chooses the mode and the file
-abbrev pub IsReadAs : List Text → Mode → Option Text → Type 0
-IsReadAs words mode file = (fault_of bitemporal words ≡ []) × Chooses (subcommand_of bitemporal words) mode file
 
 no_flag : Some (codes "false") ≡ Some (codes "true") → ⊥
 no_flag same = let wrong : codes "false" ≡ codes "true" = same_Some _ _ same in cc
@@ -107,6 +103,11 @@ read_as (program ∷ sub ∷ dashes ∷ name ∷ []) Run file asks = rw (asks.0,
 read_as (program ∷ sub ∷ dashes ∷ name ∷ []) Check file asks = rw (asks.0, asks.1.0, asks.1.1) (dashed-check program name)
 read_as (program ∷ sub ∷ dashes ∷ name ∷ word ∷ more) Run file asks = absurd asks.1
 read_as (program ∷ sub ∷ dashes ∷ name ∷ word ∷ more) Check file asks = absurd asks.1
+
+-- a line is read as what it calls for
+pub read_so : (words : List Text) (mode : Mode) (file : Option Text) → CallsFor words mode file → IsReadAs words mode file
+read_so words mode file (inl usual) = read_as words mode file usual
+read_so words mode file (inr read) = read
 
 -- a subcommand with its matches chooses one mode and one file
 run_is_not_check : codes "run" ≡ codes "check" → ⊥

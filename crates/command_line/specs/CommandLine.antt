@@ -2,7 +2,7 @@
 use Rattle.std.specs.Prelude.{◌≡◌, ◌⊎◌, ◌==◌, [], ◌∷◌, Bool, List, Option, Some, None, codes}
 use Rattle.std.specs.Prelude.{false, true}
 use Rattle.clap.specs.Words.{App, IsAmong, Row, Rule, Text, fault_of, first_of, new_app, new_rule}
-use Rattle.clap.specs.Words.{with_rule, with_subcommand}
+use Rattle.clap.specs.Words.{subcommand_of, with_rule, with_subcommand}
 use Rattle.clap.specs.declared.builder.action.ArgAction.TheVariants.{Set, SetTrue}
 use Rattle.clap.specs.declared.error.kind.ErrorKind.{ErrorKind}
 use Rattle.clap.specs.declared.error.kind.ErrorKind.TheVariants.{MissingSubcommand}
@@ -91,6 +91,16 @@ IsCommandLineFor [] mode file = ⊥
 IsCommandLineFor (program ∷ []) mode file = ⊥
 IsCommandLineFor (program ∷ subcommand ∷ rest) mode file = IsSubcommandFor subcommand rest mode file
 
--- clap finds this kind of fault in the words, or they name no subcommand
+-- clap finds no fault in the line, and chooses the mode and the file
+abbrev pub IsReadAs : List Text → Mode → Option Text → Type 0
+IsReadAs words mode file =
+    (fault_of bitemporal words ≡ []) × Chooses (subcommand_of bitemporal words) mode file
+
+-- the line calls for this mode and file: it has one of the program's forms, or clap reads it so
+abbrev pub CallsFor : List Text → Mode → Option Text → Type 0
+CallsFor words mode file = IsCommandLineFor words mode file ⊎ IsReadAs words mode file
+
+-- clap finds this kind of fault in the words, or else finds none, and they name no subcommand
 abbrev pub IsLineFault : List Text → ErrorKind → Type 0
-IsLineFault words kind = IsAmong kind (fault_of bitemporal words) ⊎ (kind ≡ MissingSubcommand)
+IsLineFault words kind = IsAmong kind (fault_of bitemporal words)
+    ⊎ ((kind ≡ MissingSubcommand) × (fault_of bitemporal words ≡ []))

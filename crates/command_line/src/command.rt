@@ -7,7 +7,7 @@ ghost use Rattle.std.specs.String.{string_bytes};
 ghost use Rattle.clap.specs.Words.{app_of, fault_of, first_of, found_of, kind_of, rows_of, rule_of};
 ghost use Rattle.clap.specs.Words.{subcommand_of};
 ghost use Rattle.clap.specs.declared.builder.Command.TheViews.{out-Command};
-ghost use Rattle.command_line.specs.CommandLine.{IsCommandLineFor, Chooses, IsMode, IsSet};
+ghost use Rattle.command_line.specs.CommandLine.{CallsFor, Chooses, IsMode, IsSet};
 ghost use Rattle.command_line.specs.CommandLine.{IsLineFault, audit_flag};
 ghost use Rattle.command_line.specs.CommandLine.{bitemporal, file_word, run_command};
 ghost use Rattle.command_line.specs.CommandLine.{script_command};
@@ -195,9 +195,9 @@ pub fn command_line<S: AsStr>(
     alloc: Global,
     words: &[S],
 ) -> Result<(Mode, Option<String>), CommandFault>
-    // Lines of the program's forms are accepted.
+    // Lines of the program's forms are accepted, and those in which clap finds no fault.
     ensures accepts { (mode : Mode) (file : Option (List ℕ))
-        → IsCommandLineFor (map S.text words.now) mode file
+        → CallsFor (map S.text words.now) mode file
         → MatchResult result
         (λ chosen. (chosen.0 ≡ mode) × (option_map string_bytes chosen.1 ≡ file))
         (λ fault. fault ≡ CommandFault.Memory) }

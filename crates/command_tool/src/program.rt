@@ -5,7 +5,7 @@ ghost use Rattle.std.specs.String.{string_bytes};
 ghost use Rattle.std.specs.Io.KnownBytes.{Keeps};
 ghost use Rattle.clap.specs.Words.{fault_of};
 ghost use Rattle.command_line.specs.CommandFaults.{IsReportedFor, IsShown};
-ghost use Rattle.command_line.specs.CommandLine.{IsCommandLineFor, IsLineFault, bitemporal};
+ghost use Rattle.command_line.specs.CommandLine.{CallsFor, IsLineFault, bitemporal};
 ghost use Rattle.command_line.specs.Lines.{IsReported, MayBeReportedAs, fault_line};
 ghost use Rattle.command_line.specs.Reading.{TakesAtMost};
 ghost use Rattle.command_line.specs.declared.command.CommandFault.{CommandFault};
@@ -38,7 +38,7 @@ pub fn run_program<S: Scripts, R: Read, W: Write, E: Write>(
         × IsReported err.new.has_failed (E.contents err.old.inner) (E.contents err.new.inner)
         (fault_line Bitemporal told))) }
     ensures runs { IfOk words (λ said. (mode : Mode) (file : Option (List ℕ))
-        → IsCommandLineFor (map string_bytes said.items) mode file
+        → CallsFor (map string_bytes said.items) mode file
         → EndsWell (record {
           mode = mode;
           script = script_of (S.content files.old.scripts.now) (R.remaining input.old.inner) file;
