@@ -1,10 +1,8 @@
-use Rattle.std.proofs.Common.{◌≡◌, ◌≤◌, ◌∙◌, ℕ, List, ap, arith, drop, inl, inr, length, sym}
+use Rattle.std.proofs.Common.{◌≡◌, ◌∙◌, ℕ, List, ap, arith, drop, inl, inr, length, sym}
 use Rattle.std.specs.Prelude.{min}
 use Rattle.std.proofs.lemmas.Bool.{cases_lt}
 use Rattle.std.proofs.lemmas.List.{drop_all}
 use Rattle.period_core.specs.declared.value.Value.{Value}
-use Rattle.period_keys.proofs.PlanParts.{if_ok}
-use Rattle.period_keys.proofs.key.key_from.Goals as goal
 
 -- nothing is left after the last value
 drop_within : (count from : ℕ) (values : List Value) → from ≡ min count (length values) → drop from values ≡ drop count values

@@ -8,7 +8,7 @@ use Rattle.catalog_core.specs.declared.table.Reference.{Reference}
 use Rattle.catalog_core.specs.declared.table.TableDef.{TableDef}
 use Rattle.history_model.specs.Versions.{row_of}
 use Rattle.period_keys.specs.Gaps.{LacksKeyOf}
-use Rattle.period_keys.specs.Keys.{IsLeastOf, IsUncovered}
+use Rattle.period_keys.specs.Keys.{IsUncovered}
 use Rattle.period_keys.specs.Lawful.{IsCoveredBy, own_positions, parent_positions}
 use Rattle.period_keys.specs.LookUps.{periods_by}
 use Rattle.period_keys.specs.TableRows.{TableRows}

@@ -1,14 +1,13 @@
 use Rattle.std.proofs.Common.{◌≡◌, ◌↔◌, ◌<◌, ◌≤◌, ◌+◌, ◌∙◌, ℕ, suc, List, Bool, Some, true, false, ap, arith, get_or, length, map, refl, subst, sym}
 use Rattle.std.specs.Prelude.{IsTrue}
 use Rattle.std.proofs.lemmas.Option.{slice_get_read}
-use Rattle.period_core.specs.declared.row.PeriodRow.{PeriodRow}
 use Rattle.period_core.specs.declared.version.VersionRow.{VersionRow}
 use Rattle.catalog_core.specs.table.TableWords.{table_of}
 use Rattle.catalog_core.specs.declared.table.TableDef.{TableDef}
 use Rattle.history_model.specs.Histories.{State}
 use Rattle.history_model.specs.Versions.{row_of}
 use Rattle.period_keys.specs.Current.{HaveIndexes, HoldCurrent, HoldsCurrent, rows_by_key}
-use Rattle.period_keys.specs.Lawful.{HoldsTable, IsLawfulState, IsLawfulTable, key_positions}
+use Rattle.period_keys.specs.Lawful.{HoldsTable, IsLawfulState, IsLawfulTable}
 use Rattle.period_keys.specs.Rows.{RowsByKey}
 use Rattle.period_keys.specs.TableRows.{TableRows}
 use Rattle.period_keys.proofs.ReferenceFacts.{number_at}

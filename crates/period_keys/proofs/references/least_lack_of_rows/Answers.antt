@@ -1,4 +1,4 @@
-use Rattle.std.proofs.Common.{◌≡◌, ◌++◌, ◌∷◌, [], ◌∙◌, ℤ, List, append-nil, append_assoc, ap, map, subst, sym}
+use Rattle.std.proofs.Common.{◌≡◌, ◌++◌, ◌∷◌, [], ◌∙◌, List, append-nil, append_assoc, ap, map, subst, sym}
 use Rattle.std.specs.List.{Any}
 use Rattle.period_core.specs.declared.period.Period.{Period}
 use Rattle.period_core.specs.declared.value.Value.{Value}

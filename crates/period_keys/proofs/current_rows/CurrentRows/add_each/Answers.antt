@@ -1,4 +1,4 @@
-use Rattle.std.proofs.Common.{◌++◌, ◌∙◌, List, append_assoc, subst, sym}
+use Rattle.std.proofs.Common.{◌++◌, ◌∙◌, List, append_assoc, subst}
 use Rattle.std.specs.List.Sorted.{IsPermutation}
 use Rattle.std.proofs.lemmas.List.Sorted.{IsPermutation-append_comm, IsPermutation-append_left, IsPermutation-append_right, IsPermutation-trans}
 use Rattle.period_core.specs.declared.version.VersionRow.{VersionRow}
