@@ -1,5 +1,5 @@
 -- The versions of a table that have ended, in memory, remain the ended versions of the store.
-use Rattle.std.proofs.Common.{◌≡◌, ◌≤ℤ◌, ◌++◌, ◌∷◌, ◌∙◌, ℕ, ℤ, zero, suc, Bool, true, false, List, [], Option, None, Some, Result, Ok, Err, append-nil, get_or, map, nat_eq, not, refl, set, sym, ap, ap₂, subst, arith}
+use Rattle.std.proofs.Common.{◌≡◌, ◌≤ℤ◌, ◌-◌, ◌++◌, ◌∷◌, ◌∙◌, ℕ, ℤ, zero, suc, Bool, true, false, List, [], Option, None, Some, Result, Ok, Err, append-nil, get_or, map, nat_eq, not, refl, set, sym, ap, ap₂, subst, arith}
 use Rattle.std.specs.List.{filter, slice_get}
 use Rattle.std.specs.List.Sorted.{IsPermutation}
 use Rattle.std.specs.Option.{option_map_or}
@@ -162,8 +162,8 @@ set_elsewhere (l ∷ lists) zero (suc other) new off = refl
 set_elsewhere (l ∷ lists) (suc place) zero new off = refl
 set_elsewhere (l ∷ lists) (suc place) (suc other) new off = set_elsewhere lists place other new (λ same. off (ap suc same))
 
-pub have_closed : (lists : List (List PackedVersion)) (place : ℕ) (old new : List PackedVersion) (more : List VersionRow) → slice_get lists place ≡ Some old → AreOfColumns more → new ≡ old ++ map packed more → HaveClosed (suc place) more lists (set lists place new)
-have_closed lists place old new more there held made = record {
+have_closed_at : (lists : List (List PackedVersion)) (place : ℕ) (old new : List PackedVersion) (more : List VersionRow) → slice_get lists place ≡ Some old → AreOfColumns more → new ≡ old ++ map packed more → HaveClosed (suc place) more lists (set lists place new)
+have_closed_at lists place old new more there held made = record {
   held = held;
   there = set_here lists place old new there ∙ (made ∙ ap (λ (l : List PackedVersion). l ++ map packed more) (sym (here lists place old there)));
   others = others;
@@ -173,11 +173,9 @@ have_closed lists place old new more there held made = record {
     others zero off = refl
     others (suc other) off = set_elsewhere lists place other new (λ same. off (ap suc same))
 
--- a list that is written at its own place
-pub set_same : (lists : List (List PackedVersion)) (place : ℕ) (old new : List PackedVersion) → slice_get lists place ≡ Some old → new ≡ old → set lists place new ≡ lists
-set_same [] place old new there same = cc
-set_same (l ∷ lists) zero old new there same = let is : l ≡ old = cc in ap (λ x. x ∷ lists) (same ∙ sym is)
-set_same (l ∷ lists) (suc place) old new there same = ap (λ ls. l ∷ ls) (set_same lists place old new there same)
+pub have_closed : (lists : List (List PackedVersion)) (number : ℕ) (old new : List PackedVersion) (more : List VersionRow) → table_of lists number ≡ Some old → AreOfColumns more → new ≡ old ++ map packed more → HaveClosed number more lists (set lists (number - 1) new)
+have_closed lists zero old new more there held made = cc
+have_closed lists (suc place) old new more there held made = let e : suc place - 1 ≡ place = omega arith in rw e (have_closed_at lists place old new more there held made)
 
 -- ---- the clock
 
