@@ -7,6 +7,7 @@ use Rattle.std.specs.Prelude.{OnErr, OnOk}
 use Rattle.std.proofs.lemmas.Bool.Decides.{nat_tests}
 use Rattle.std.proofs.lemmas.Int.{ints}
 use Rattle.std.proofs.lemmas.List.Elements.{All-nil, All-push, filter-append}
+use Rattle.std.proofs.lemmas.Option.{slice_get-get_or, slice_get_within}
 use Rattle.std.proofs.lemmas.List.Sorted.{IsPermutation-append_left, IsPermutation-map, IsPermutation-sym, IsPermutation-trans}
 use Rattle.sqlite_trees.proofs.ListLemmas.{IsPermutation-filter, all_weaker, filter-map, filter_all, filter_none}
 use Rattle.period_core.specs.declared.refusal.Refusal.{Refusal}
@@ -139,6 +140,13 @@ some_list lists number list there = ap (λ (o : Option (List PackedVersion)). op
 
 pub no_list : (lists : List (List PackedVersion)) (number : ℕ) → table_of lists number ≡ None → ended_in lists number ≡ []
 no_list lists number none = ap (λ (o : Option (List PackedVersion)). option_map_or (λ (l : List PackedVersion). l) o []) none
+
+pub list_ended : (moment : ℤ) (lists : List (List PackedVersion)) (number : ℕ) (list : List PackedVersion) → table_of lists number ≡ Some list → AllEndedBy moment lists → AreEndedBy moment list
+list_ended moment lists zero list there all = cc
+list_ended moment lists (suc place) list there all =
+    let below = slice_get_within lists place list there in
+    let same : get_or lists place list ≡ list = (let one = sym (slice_get-get_or lists place list below) ∙ there in cc) in
+    subst (AreEndedBy moment) same (all place list below)
 
 -- a list that holds nothing has no versions
 pub holds_none : (versions : List VersionRow) → Hold [] versions → versions ≡ []

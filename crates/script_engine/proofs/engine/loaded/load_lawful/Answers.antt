@@ -28,7 +28,7 @@ returns-clause-follow c =
 pub returns-then-is_empty-clause-loaded : goal.returns-then-is_empty-clause-loaded
 returns-then-is_empty-clause-loaded c = λ d read.
     let none : c.in_ok-rows.rows.items ≡ [] = no_items c.in_ok-rows.rows.items (search rules) in
-    subst (λ (ts : List TableRows). HaveCurrentRows d (map rows_by_key ts)) (sym c.new.ensures.items)
+    subst (λ (ts : List TableRows). HaveCurrentRows d (map rows_by_key ts)) (sym c.new-current.ensures.items)
     (subst (HaveCurrentRows d) none (c.in_ok-rows.ensures.current d read))
 
 pub returns-clause-loaded : goal.returns-clause-loaded

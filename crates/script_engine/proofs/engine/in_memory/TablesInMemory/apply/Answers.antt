@@ -11,7 +11,7 @@ use Rattle.period_keys.specs.Versions.{begun}
 use Rattle.script_engine.specs.engine.Ended.{AllEndedBy}
 use Rattle.script_engine.specs.engine.InMemory.{AreKeysIn, FollowCatalog, rows_in}
 use Rattle.script_engine.specs.engine.TablesState.{TablesState}
-use Rattle.script_engine.proofs.EndedAfter.{have_closed}
+use Rattle.script_engine.proofs.EndedAfter.{have_closed, list_ended}
 use Rattle.script_engine.proofs.Indexed.{follow_written, have_written, on_ok_both, rows_of_table, rows_there}
 use Rattle.script_engine.proofs.Numbers.{set_there}
 use Rattle.script_engine.proofs.engine.in_memory.TablesInMemory.apply.Goals as goal
@@ -32,6 +32,11 @@ apply_change-requires-clause-keys g c =
     let given : AreKeysIn (map rows_by_key ts) c.args.number c.args.plan.now.added c.args.keys.items =
     subst (λ (t : TablesState). AreKeysIn (map rows_by_key t.current) c.args.number c.args.plan.now.added c.args.keys.items) (sym c.self.view_is) c.requires.keys in
     given (rows_by_key c.in-Some.table.now) (rows_there ts c.args.number c.in-Some.table.now c.in-Some.ensures.found)
+
+pub apply_change-requires-clause-before : goal.apply_change-requires-clause-before
+apply_change-requires-clause-before g c =
+    list_ended c.args.store.now.clock c.self.inside.ended.items c.args.number c.in-Some-of_number_mut.ended.now c.in-Some-of_number_mut.ensures.found
+    (subst (λ (t : TablesState). AllEndedBy c.args.store.now.clock t.ended) (sym c.self.view_is) c.requires.before)
 
 pub returns-clause-made : goal.returns-clause-made
 returns-clause-made g c =
