@@ -110,11 +110,12 @@ impl TablesInMemory {
         ensures appended { OnOk result (self.new.ended ≡ self.old.ended ++ [] ∷ []) }
         ensures unchanged { OnErr result (self.new.ended ≡ self.old.ended) }
     {
+        let count = self.ended.len();
         self.ended.push(no_versions(alloc, definition)?)?;
         match add_table(alloc, catalog, &mut self.current, definition) {
             Ok(()) => Ok(()),
             Err(refused) => {
-                let _none = self.ended.pop();
+                self.ended.truncate(count);
                 Err(refused)
             }
         }

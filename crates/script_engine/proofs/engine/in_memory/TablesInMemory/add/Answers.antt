@@ -1,4 +1,4 @@
-use Rattle.std.proofs.Common.{◌≡◌, ◌++◌, ◌∷◌, [], ◌∙◌, List, ap, length, subst, sym}
+use Rattle.std.proofs.Common.{◌++◌, ◌∷◌, [], ◌∙◌, List, ap, length, subst, sym}
 use Rattle.catalog_core.specs.declared.table.TableDef.{TableDef}
 use Rattle.period_keys.specs.Lawful.{key_positions}
 use Rattle.period_keys.specs.TableRows.{TableRows}
@@ -7,7 +7,6 @@ use Rattle.script_engine.specs.engine.TablesState.{TablesState}
 use Rattle.script_engine.proofs.Indexed.{follow_created, follow_more, same_rows_of}
 use Rattle.script_engine.proofs.LastState.{lawful_more, earlier_of}
 use Rattle.script_engine.proofs.engine.in_memory.TablesInMemory.add.Goals as goal
-use Rattle.script_engine.proofs.engine.in_memory.TablesInMemory.add.Goals.{in-Some-1, in-None-1}
 
 pub add_table-requires-clause-there : goal.add_table-requires-clause-there
 add_table-requires-clause-there c = ap (λ (t : TablesState). length t.current) c.self.view_is ∙ c.requires.follow.count
@@ -30,8 +29,4 @@ returns-in-Err-clause-none c =
     let old : List TableRows = c.self.inside.current.items in
     let new : List TableRows = c.add_table.new.tables.items in
     let was : FollowCatalog catalog old = subst (λ (t : TablesState). FollowCatalog catalog t.current) (sym c.self.view_is) c.requires.follow in
-    let is : c.match-none.self ≡ record { current = new; ended = c.pop-none.new.self.items } = elim c.match-none.branch [
-      | in-Some-1 w ↦ w.self-is
-      | in-None-1 w ↦ w.self-is
-    ] in
-    rw (is, ← c.self.view_is) (same_rows_of old new c.in-Err.ensures.err, follow_more catalog old new c.in-Err.ensures.err was)
+    rw (← c.self.view_is) (same_rows_of old new c.in-Err.ensures.err, follow_more catalog old new c.in-Err.ensures.err was)
