@@ -1,5 +1,5 @@
 -- The versions of a table that have ended, in memory, remain the ended versions of the store.
-use Rattle.std.proofs.Common.{◌≡◌, ◌≤ℤ◌, ◌++◌, ◌∷◌, ◌∙◌, ℕ, ℤ, zero, suc, Bool, true, false, List, [], Option, None, Some, Result, Ok, Err, append-nil, get_or, map, nat_eq, not, refl, set, sym, ap, ap₂, subst, arith}
+use Rattle.std.proofs.Common.{◌≡◌, ◌≤ℤ◌, ◌-◌, ◌++◌, ◌∷◌, ◌∙◌, ℕ, ℤ, zero, suc, Bool, true, false, List, [], Option, None, Some, Result, Ok, Err, append-nil, get_or, map, nat_eq, not, refl, set, sym, ap, ap₂, subst, arith}
 use Rattle.std.specs.List.{filter, slice_get}
 use Rattle.std.specs.List.Sorted.{IsPermutation}
 use Rattle.std.specs.Option.{option_map_or}
@@ -7,6 +7,7 @@ use Rattle.std.specs.Prelude.{OnErr, OnOk}
 use Rattle.std.proofs.lemmas.Bool.Decides.{nat_tests}
 use Rattle.std.proofs.lemmas.Int.{ints}
 use Rattle.std.proofs.lemmas.List.Elements.{All-nil, All-push, filter-append}
+use Rattle.std.proofs.lemmas.Option.{slice_get-get_or, slice_get_within}
 use Rattle.std.proofs.lemmas.List.Sorted.{IsPermutation-append_left, IsPermutation-map, IsPermutation-sym, IsPermutation-trans}
 use Rattle.sqlite_trees.proofs.ListLemmas.{IsPermutation-filter, all_weaker, filter-map, filter_all, filter_none}
 use Rattle.period_core.specs.declared.refusal.Refusal.{Refusal}
@@ -140,6 +141,13 @@ some_list lists number list there = ap (λ (o : Option (List PackedVersion)). op
 pub no_list : (lists : List (List PackedVersion)) (number : ℕ) → table_of lists number ≡ None → ended_in lists number ≡ []
 no_list lists number none = ap (λ (o : Option (List PackedVersion)). option_map_or (λ (l : List PackedVersion). l) o []) none
 
+pub list_ended : (moment : ℤ) (lists : List (List PackedVersion)) (number : ℕ) (list : List PackedVersion) → table_of lists number ≡ Some list → AllEndedBy moment lists → AreEndedBy moment list
+list_ended moment lists zero list there all = cc
+list_ended moment lists (suc place) list there all =
+    let below = slice_get_within lists place list there in
+    let same : get_or lists place list ≡ list = (let one = sym (slice_get-get_or lists place list below) ∙ there in cc) in
+    subst (AreEndedBy moment) same (all place list below)
+
 -- a list that holds nothing has no versions
 pub holds_none : (versions : List VersionRow) → Hold [] versions → versions ≡ []
 holds_none [] hold = refl
@@ -162,8 +170,8 @@ set_elsewhere (l ∷ lists) zero (suc other) new off = refl
 set_elsewhere (l ∷ lists) (suc place) zero new off = refl
 set_elsewhere (l ∷ lists) (suc place) (suc other) new off = set_elsewhere lists place other new (λ same. off (ap suc same))
 
-pub have_closed : (lists : List (List PackedVersion)) (place : ℕ) (old new : List PackedVersion) (more : List VersionRow) → slice_get lists place ≡ Some old → AreOfColumns more → new ≡ old ++ map packed more → HaveClosed (suc place) more lists (set lists place new)
-have_closed lists place old new more there held made = record {
+have_closed_at : (lists : List (List PackedVersion)) (place : ℕ) (old new : List PackedVersion) (more : List VersionRow) → slice_get lists place ≡ Some old → AreOfColumns more → new ≡ old ++ map packed more → HaveClosed (suc place) more lists (set lists place new)
+have_closed_at lists place old new more there held made = record {
   held = held;
   there = set_here lists place old new there ∙ (made ∙ ap (λ (l : List PackedVersion). l ++ map packed more) (sym (here lists place old there)));
   others = others;
@@ -173,11 +181,9 @@ have_closed lists place old new more there held made = record {
     others zero off = refl
     others (suc other) off = set_elsewhere lists place other new (λ same. off (ap suc same))
 
--- a list that is written at its own place
-pub set_same : (lists : List (List PackedVersion)) (place : ℕ) (old new : List PackedVersion) → slice_get lists place ≡ Some old → new ≡ old → set lists place new ≡ lists
-set_same [] place old new there same = cc
-set_same (l ∷ lists) zero old new there same = let is : l ≡ old = cc in ap (λ x. x ∷ lists) (same ∙ sym is)
-set_same (l ∷ lists) (suc place) old new there same = ap (λ ls. l ∷ ls) (set_same lists place old new there same)
+pub have_closed : (lists : List (List PackedVersion)) (number : ℕ) (old new : List PackedVersion) (more : List VersionRow) → table_of lists number ≡ Some old → AreOfColumns more → new ≡ old ++ map packed more → HaveClosed number more lists (set lists (number - 1) new)
+have_closed lists zero old new more there held made = cc
+have_closed lists (suc place) old new more there held made = let e : suc place - 1 ≡ place = omega arith in rw e (have_closed_at lists place old new more there held made)
 
 -- ---- the clock
 

@@ -1,12 +1,17 @@
--- The catalog of an engine and its versions in memory, as a query is handed them.
-use Rattle.std.proofs.Common.{◌≡◌, ◌∙◌, List, ap, subst, subst₂, sym}
+-- The versions in memory, and what a query is resolved to, as the answering of a query is handed them.
+use Rattle.std.proofs.Common.{◌≡◌, List, subst, sym}
 use Rattle.sqlite.specs.Store.{Ghosts}
-use Rattle.catalog_core.specs.declared.table.catalog.Catalog.{Catalog}
-use Rattle.ended_versions.specs.Packed.{PackedVersion}
+use Rattle.sql_statements.specs.Trees as written
+use Rattle.catalog_core.specs.declared.table.TableDef.{TableDef}
+use Rattle.catalog_core.specs.query.Queries.{Query}
+use Rattle.statement_resolution.specs.query.Resolving.{ResolvesSequenced}
 use Rattle.history_model.specs.Histories.{History, catalog_of}
-use Rattle.period_keys.specs.Rows.{RowsByKey}
-use Rattle.script_engine.specs.engine.EngineState.{EngineState}
-use Rattle.script_engine.specs.engine.Stored.{EngineRepresents, HasContents, RowsRepresent}
+use Rattle.version_store.specs.StoreState.{StoreState}
+use Rattle.script_engine.specs.engine.Answering.{IsOfCatalog}
+use Rattle.script_engine.specs.engine.EngineState.{EngineState, engine_with}
+use Rattle.script_engine.specs.engine.Stored.{EngineRepresents, HasContents, RowsRepresent, TablesRepresent}
+use Rattle.script_engine.specs.engine.TablesState.{TablesState}
+use Rattle.script_engine.proofs.Fits.{of_catalog}
 use Rattle.script_engine.proofs.Steps.{tables_of}
 
 module _ {S : Type 0} (g : Ghosts S) (history : History) (engine : EngineState S) (kept : EngineRepresents g history engine) where
@@ -19,11 +24,12 @@ module _ {S : Type 0} (g : Ghosts S) (history : History) (engine : EngineState S
   has_the_same other same = subst (λ (e : EngineState S). HasContents g e kept.contents) (sym same) has_still
 
   -- the versions in memory are the history's
-  pub handed_rows : (tables : List RowsByKey) (ended : List (List PackedVersion)) → tables ≡ engine.tables → ended ≡ engine.ended → RowsRepresent history tables ended
-  handed_rows tables ended same closed =
+  pub handed_rows : (store : StoreState S) (tables : TablesState) → engine_with store tables ≡ engine → TablesRepresent history tables
+  handed_rows store tables same =
       let all : RowsRepresent history engine.tables engine.ended = record { contents = kept.contents; said = kept.said; current = kept.current; ended = kept.ended } in
-      subst₂ (λ (ts : List RowsByKey) (es : List (List PackedVersion)). RowsRepresent history ts es) (sym same) (sym closed) all
+      subst (λ (e : EngineState S). RowsRepresent history e.tables e.ended) (sym same) all
 
-  -- the catalog is the history's
-  pub handed_catalog : (catalog : Catalog) → catalog ≡ engine.catalog → catalog.tables ≡ catalog_of history
-  handed_catalog catalog same = ap (λ (k : Catalog). k.tables) same ∙ tables_of g history engine kept
+  -- what a query is resolved to is of the history's catalog
+  pub handed_query : (asked : written.Query) (query : Query) → ResolvesSequenced engine.catalog.tables asked query → IsOfCatalog (catalog_of history) query
+  handed_query asked query found =
+      of_catalog (catalog_of history) asked query (subst (λ (tables : List TableDef). ResolvesSequenced tables asked query) (tables_of g history engine kept) found)

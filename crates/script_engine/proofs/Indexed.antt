@@ -41,18 +41,23 @@ none_there tables (suc place) is = slice_get-map rows_by_key tables place ∙ ap
 
 -- ---- one table written
 
-pub have_written : (tables : List TableRows) (place : ℕ) (old new : TableRows) (wanted : List VersionRow) → slice_get tables place ≡ Some old → HasTableRows wanted old new →
-    HaveRows (suc place) wanted (map rows_by_key tables) (map rows_by_key (set tables place new))
-have_written tables place old new wanted there has =
-    subst (HaveRows (suc place) wanted (map rows_by_key tables)) (sym (map-set rows_by_key tables place new))
-    (have_rows_set (map rows_by_key tables) place (rows_by_key old) (rows_by_key new) wanted (rows_at tables place old there) (record { positions = has.positions; rows = has.rows }))
+pub have_written : (tables : List TableRows) (number : ℕ) (old new : TableRows) (wanted : List VersionRow) → table_of tables number ≡ Some old → HasTableRows wanted old new →
+    HaveRows number wanted (map rows_by_key tables) (map rows_by_key (set tables (number - 1) new))
+have_written tables zero old new wanted there has = cc
+have_written tables (suc place) old new wanted there has =
+    let e : suc place - 1 ≡ place = omega arith in
+    rw e (subst (HaveRows (suc place) wanted (map rows_by_key tables)) (sym (map-set rows_by_key tables place new))
+    (have_rows_set (map rows_by_key tables) place (rows_by_key old) (rows_by_key new) wanted (rows_at tables place old there) (record { positions = has.positions; rows = has.rows })))
 
-pub follow_written : (catalog : List TableDef) (tables : List TableRows) (place : ℕ) (old new : TableRows) → slice_get tables place ≡ Some old → new.indexed ≡ old.indexed → FollowCatalog catalog tables → FollowCatalog catalog (set tables place new)
-follow_written catalog tables place old new there same was = record {
-  lawful = was.lawful;
-  count = length-set tables place new ∙ was.count;
-  indexed = have_indexes_set catalog tables place old new there same was.indexed;
-}
+pub follow_written : (catalog : List TableDef) (tables : List TableRows) (number : ℕ) (old new : TableRows) → table_of tables number ≡ Some old → new.indexed ≡ old.indexed → FollowCatalog catalog tables → FollowCatalog catalog (set tables (number - 1) new)
+follow_written catalog tables zero old new there same was = cc
+follow_written catalog tables (suc place) old new there same was =
+    let e : suc place - 1 ≡ place = omega arith in
+    rw e (record {
+      lawful = was.lawful;
+      count = length-set tables place new ∙ was.count;
+      indexed = have_indexes_set catalog tables place old new there same was.indexed;
+    })
 
 -- ---- more indexes, and one table more or less
 

@@ -47,6 +47,7 @@ mod NotedFacts
 mod UnwrittenFacts
 mod ReadOnlyFacts
 mod Needed
+mod Numbers
 mod Read
 mod Taken
 mod NewStore

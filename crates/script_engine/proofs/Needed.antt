@@ -5,6 +5,7 @@ use Rattle.std.specs.List.{AllByRecursion, Contains, list_all}
 use Rattle.std.specs.List.Sorted.{IsPermutation}
 use Rattle.std.proofs.lemmas.Bool.{and_parts}
 use Rattle.std.proofs.lemmas.Bool.Decides.{nat_tests}
+use Rattle.std.proofs.lemmas.List.{length-map}
 use Rattle.std.proofs.lemmas.Slice.Zip.{AllZip-left}
 use Rattle.std.proofs.lemmas.List.Sorted.{Contains-permutation, IsPermutation-sym}
 use Rattle.sqlite_trees.proofs.ListLemmas.{IsPermutation-filter, all-append, all_both, filter-map}
@@ -24,6 +25,7 @@ use Rattle.catalog_core.specs.declared.table.Column.{Column}
 use Rattle.catalog_core.specs.declared.table.TableDef.{TableDef}
 use Rattle.catalog_core.specs.query.Fitting.{are_in_place, fits, has_kinds, sees_its_kinds}
 use Rattle.catalog_core.specs.query.Queries.{Query, both, one, references_of, rows_for}
+use Rattle.catalog_core.specs.table.Kinds.{kind_of_column}
 use Rattle.catalog_core.specs.table.TableWords.{table_of, value_columns}
 use Rattle.history_model.specs.Histories.{History}
 use Rattle.history_model.specs.OrdinaryQuery.{VisibleInHistory, InCombined, InProduct, InQuery, VisibleInTables, meets_all}
@@ -67,6 +69,18 @@ each_in P (y ∷ ys) all x among = elim (Contains-cons_cases y ys x among) [
 -- the table of this number has so many value columns, if it exists
 abbrev pub IsWidth : List TableDef → ℕ → ℕ → Type 0
 IsWidth tables number width = (d : TableDef) → table_of tables number ≡ Some d → width ≡ length (value_columns d)
+
+-- a reference has as many kinds as its table has value columns
+pub known_width : (tables : List TableDef) (reference : QueryReference) → IsKnown tables reference → IsWidth tables reference.table (length reference.kinds)
+known_width tables reference (table, there, kinds) other is =
+    let same : table ≡ other = (let one = sym there ∙ is in cc) in
+    subst (λ (t : TableDef). length reference.kinds ≡ length (value_columns t)) same
+    (ap length kinds ∙ length-map (value_columns table) (λ (column : ℕ × Column). kind_of_column column.1.kind))
+
+-- the references of both sides are known
+pub known_sides : (tables : List TableDef) (first second : List QueryReference) → AllByRecursion (IsKnown tables) (first ++ second) → AllByRecursion (IsKnown tables) first × AllByRecursion (IsKnown tables) second
+known_sides tables [] second known = (tt, known)
+known_sides tables (reference ∷ first) second (its, known) = let (before, after) = known_sides tables first second known in ((its, before), after)
 
 module _ (c : Contents) (number width : ℕ) (good : AreGood NoExtraCondition c) (wide : IsWidth c.tables number width) where
   good_width : (v : VersionRow) → Contains c.versions (version_in number v) → length v.values ≡ width

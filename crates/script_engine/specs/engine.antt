@@ -1,3 +1,4 @@
+pub mod TablesState
 pub mod EngineState
 pub mod InMemory
 pub mod Ended

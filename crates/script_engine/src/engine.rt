@@ -44,13 +44,14 @@ ghost use Rattle.sql_statements.specs.Trees as statement;
 
 mod audits;
 mod chained;
-mod closed;
+mod changed;
 mod conditions;
 mod copied;
 mod in_memory;
-mod indexed;
 mod lawfulness;
+mod loaded;
 mod needed;
+mod numbers;
 mod outcome;
 mod prepared;
 mod reading;
@@ -59,18 +60,15 @@ mod stored;
 mod unwritten;
 mod version_lists;
 
-use crate::engine::closed::{add_versions, apply_change, remove_versions};
-use crate::engine::indexed::load_lawful;
+use crate::engine::in_memory::TablesInMemory;
 use crate::engine::lawfulness::{LawfulPlan, lawful_plan};
+use crate::engine::loaded::load_lawful;
 use crate::engine::needed::answer_query;
 use crate::engine::outcome::done;
-use crate::engine::prepared::prepare_change;
 use crate::engine::stored::shown_by;
 use crate::engine::version_lists::version_columns;
-use catalog_core::{Catalog, Change, Plan, define, of_number};
-use ended_versions::EndedVersions;
+use catalog_core::{Catalog, Change, define};
 use period_core::{Items, Moment, Refusal, VersionRow};
-use period_keys::{Key, TableIndex};
 use sql_statements::{
     ClockMoment, CreateTable, QueryTree, SelectDistinct, Statement, StatementForm, StoredQuery,
 };
@@ -85,20 +83,16 @@ use std::marker::Model;
 use std::mem::ManuallyDrop;
 use version_store::VersionStore;
 
-/// The engine: its store, and in memory all versions of each table, in the order of the catalog:
-/// the current ones, with the indexes that its references need, and those that have ended. So
+/// The engine: its store, and in memory the tables of its catalog, with all versions of each. So
 /// neither a change nor a query reads a row from the database.
 #[derive(Drop)]
 pub struct Engine<S: Alter> {
     store: VersionStore<S>,
-    tables: Vec<TableIndex>,
-    ended: Vec<EndedVersions>,
+    tables: TablesInMemory,
 }
 
 impl<S: Alter> Model for Engine<S> {
-    ghost use Rattle.std.specs.Prelude.{◌≡◌, length, map};
-    ghost use Rattle.period_keys.specs.Current.{rows_by_key};
-    ghost use Rattle.script_engine.specs.engine.EngineState.{EngineState, engine_of};
+    ghost use Rattle.script_engine.specs.engine.EngineState.{EngineState, engine_with};
     ghost use Rattle.script_engine.specs.engine.EngineState.{engine_state_code};
     ghost use Rattle.script_engine.specs.engine.Ended.{AllEndedBy};
     ghost use Rattle.script_engine.specs.engine.InMemory.{FollowCatalog};
@@ -107,11 +101,10 @@ impl<S: Alter> Model for Engine<S> {
 
     ghost coded = { engine_state_code S.code };
 
-    ghost view = { λ e. engine_of e.store (map rows_by_key e.tables.items) e.ended.items };
+    ghost view = { λ e. engine_with e.store e.tables };
 
-    ghost invariant = { λ e. FollowCatalog e.store.catalog.tables e.tables.items
-        × AllEndedBy e.store.clock e.ended.items
-        × (length e.ended.items ≡ length e.store.catalog.tables) };
+    ghost invariant = { λ e. FollowCatalog e.store.catalog.tables e.tables.current
+        × AllEndedBy e.store.clock e.tables.ended };
 }
 
 /// The connection of a store: a good store's is good.
@@ -174,16 +167,12 @@ impl<S: Alter> Engine<S> {
             Err(failed) => return Err(failed),
         };
         let clock = opened.clock();
-        let (tables, ended) = match load_lawful(alloc, opened.catalog(), clock, lists) {
+        let tables = match load_lawful(alloc, opened.catalog(), clock, lists) {
             Ok(loaded) => loaded,
             Err(refusal) => return Err((refusal, opened.refuse())),
         };
         match opened.accept() {
-            Ok(store) => Ok(Engine {
-                store,
-                tables,
-                ended,
-            }),
+            Ok(store) => Ok(Engine { store, tables }),
             Err(failed) => Err(failed),
         }
     }
@@ -197,11 +186,7 @@ impl<S: Alter> Engine<S> {
             → (history : History) → EngineRepresents S.Store history self
             → IsGoodStore AreConstrained (state S.Store result).now }
     {
-        let Engine {
-            store,
-            tables: _,
-            ended: _,
-        } = self;
+        let Engine { store, tables: _ } = self;
         connection_of(store)
     }
 
@@ -214,13 +199,8 @@ impl<S: Alter> Engine<S> {
             → (history : History) → EngineRepresents S.Store history self
             → IsGoodStore AreConstrained (state S.Store result).now }
     {
-        let Engine {
-            store,
-            tables,
-            ended,
-        } = self;
+        let Engine { store, tables } = self;
         let _tables = ManuallyDrop::new(tables);
-        let _ended = ManuallyDrop::new(ended);
         connection_of(store)
     }
 
@@ -243,8 +223,8 @@ impl<S: Alter> Engine<S> {
     pub(crate) fn ended_of(&self, table: u8) -> usize
         ensures { result ≡ length (ended_in self.now.ended table) }
     {
-        match of_number(self.ended.as_slice(), table) {
-            Some(list) => list.len(),
+        match self.tables.table(table) {
+            Some(versions) => versions.ended.len(),
             None => 0,
         }
     }
@@ -327,68 +307,14 @@ impl<S: Alter> Engine<S> {
     {
         let definition = define(alloc, self.store.catalog(), create)?;
         let catalog = self.store.catalog();
-        let tables = &mut self.tables;
-        add_versions(alloc, catalog, tables, &mut self.ended, &definition)?;
+        self.tables.add(alloc, catalog, &definition)?;
         match self.store.add_table(alloc, definition) {
             Ok(()) => Ok(Outcome::Done(Word::Create, 0)),
             Err(refusal) => {
-                remove_versions(&mut self.tables, &mut self.ended);
+                self.tables.remove_last();
                 Err(refusal)
             }
         }
-    }
-
-    /// Makes what a plan, the keys of whose added rows these are, says of the table of a number,
-    /// which exists, at the clock, in the database and in memory, if the plan ends some of its
-    /// current rows. On `Err` nothing is changed.
-    fn apply(
-        &mut self,
-        alloc: Global,
-        table: u8,
-        plan: &Plan,
-        keys: Vec<Key>,
-    ) -> Result<(), Refusal>
-        requires there { (definition : Definition)
-            × (table_of self.old.catalog.tables table ≡ Some definition) }
-        requires split { (stay : List Version)
-            × IsPermutation (rows_in self.old.tables table) (plan.now.ended ++ stay) }
-        requires keys { AreKeysIn self.old.tables table plan.now.added keys.items }
-        ensures changes { Changes S.Store (store_of self.old) (store_of self.new) result
-            (planned table self.old.clock plan.now.ended plan.now.added) }
-        ensures distinct { IsUsable S.Store self.new.connection
-            → (c : Contents) → StoreRepresents S.Store (store_of self.old) c
-            → OnOk result (HaveDistinctKeys c.versions) }
-        ensures made { (stay : List Version)
-            → IsPermutation (rows_in self.old.tables table) (plan.now.ended ++ stay)
-            → OnOk result
-            (HaveRows table (map (begun self.old.clock) plan.now.added ++ stay)
-            self.old.tables self.new.tables) }
-        ensures none { OnErr result
-            (HaveRows table (rows_in self.old.tables table) self.old.tables self.new.tables) }
-        ensures appended { OnOk result (HaveClosed table
-            (closed_at self.old.clock plan.now.ended) self.old.ended self.new.ended) }
-        ensures unchanged { OnErr result (self.new.ended ≡ self.old.ended) }
-        ensures catalog { self.new.catalog ≡ self.old.catalog }
-        ensures clock { self.new.clock ≡ self.old.clock }
-        ensures none_stored { StaysOnErr S.Store self.old.connection self.new.connection result }
-        ensures usable { WasUsable S.Store self.old.connection self.new.connection }
-        ensures others { SparesOthers S.Store self.old.connection self.new.connection }
-        ensures named { IfErr result IsStoreRefusal }
-        ensures why { FailsForReason S.Store (store_of self.old) (store_of self.new) result
-            (length plan.now.added)
-            (CanMake table self.old.clock plan.now.ended plan.now.added) }
-    {
-        if table == 0 {
-            unreachable!()
-        }
-        let place = usize::from(table) - 1;
-        let Some(index) = self.tables.get_mut(place) else {
-            unreachable!()
-        };
-        let Some(ended) = self.ended.get_mut(place) else {
-            unreachable!()
-        };
-        apply_change(alloc, &mut self.store, index, ended, table, plan, keys)
     }
 
     /// Makes the index by which the rows are found that a change may touch, if there is to be one,
@@ -397,7 +323,7 @@ impl<S: Alter> Engine<S> {
         ensures { self.new ≡ self.old }
     {
         if let Ok(change) = resolved {
-            let _made = prepare_change(alloc, &mut self.tables, change);
+            let _made = self.tables.prepare_change(alloc, change);
         }
     }
 
@@ -425,9 +351,10 @@ impl<S: Alter> Engine<S> {
         let change = resolved?;
         let table = change.table;
         let catalog = self.store.catalog();
-        let made = lawful_plan(alloc, catalog, self.tables.as_slice(), change)?;
+        let made = lawful_plan(alloc, catalog, self.tables.current(), change)?;
         let LawfulPlan { plan, keys } = made;
-        self.apply(alloc, table, &plan, keys)?;
+        self.tables
+            .apply(alloc, &mut self.store, table, &plan, keys)?;
         Ok(done(word, &plan))
     }
 
@@ -451,9 +378,7 @@ impl<S: Alter> Engine<S> {
         ensures others { SparesOthers S.Store self.old.connection self.new.connection }
     {
         let query = resolve_sequenced(alloc, self.store.catalog(), query)?;
-        let catalog = self.store.catalog();
-        let tables = &mut self.tables;
-        let answer = answer_query(alloc, catalog, tables, &mut self.ended, &query)?;
+        let answer = answer_query(alloc, &mut self.tables, &query)?;
         Ok(Outcome::Answer(answer))
     }
 
@@ -477,7 +402,7 @@ impl<S: Alter> Engine<S> {
             unreachable!()
         };
         let columns = version_columns(alloc, table)?;
-        let rows = shown_by(alloc, &mut self.tables, &mut self.ended, &query)?;
+        let rows = shown_by(alloc, &mut self.tables, &query)?;
         Ok(Outcome::Versions(VersionList {
             columns,
             rows: Items::from_vec(rows),

@@ -16,6 +16,7 @@ use Rattle.version_store.specs.Written.{HasIn}
 use Rattle.history_model.specs.Histories.{History, IsInOrder, catalog_of, clock_of, new_database}
 use Rattle.history_model.specs.Histories.{last_state, opened}
 use Rattle.history_model.specs.HistoryVersions.{AreVersionsOf}
+use Rattle.period_keys.specs.Current.{rows_by_key}
 use Rattle.period_keys.specs.Lawful.{IsLawfulState}
 use Rattle.ended_versions.specs.Packed.{PackedVersion}
 use Rattle.period_keys.specs.Rows.{RowsByKey}
@@ -23,6 +24,7 @@ use Rattle.script_engine.specs.engine.Ended.{HaveEnded}
 use Rattle.script_engine.specs.engine.EngineState.{EngineState, store_of}
 use Rattle.script_engine.specs.engine.Faults.{AreConstrained}
 use Rattle.script_engine.specs.engine.InMemory.{HaveCurrentRows}
+use Rattle.script_engine.specs.engine.TablesState.{TablesState}
 
 -- the versions of the table are, in any order, those that the history leaves of it
 pub record HoldsTable (history : History) (versions : List TableVersion) (table : ℕ) : Type 0
@@ -53,6 +55,11 @@ pub record RowsRepresent (history : History) (tables : List RowsByKey)
   pub said : AreOfHistory history contents
   pub current : HaveCurrentRows contents tables
   pub ended : HaveEnded contents lists
+
+-- the versions of the tables in memory are those that the history leaves
+abbrev pub TablesRepresent : History → TablesState → Type 0
+TablesRepresent history tables =
+    RowsRepresent history (map rows_by_key tables.current) tables.ended
 
 -- the engine has these contents: in the database, as it was last committed, and in memory, with
 -- all versions of each table

@@ -1,11 +1,10 @@
 //! Statements that are run with an audit of their answer. A query is answered as without one; the
 //! checker gets all rows that its references see, whatever the answer was made from.
 
-ghost use Rattle.std.specs.Prelude.{◌≡◌, IfErr, map};
+ghost use Rattle.std.specs.Prelude.{◌≡◌, IfErr};
 ghost use Rattle.catalog_core.specs.query.Queries.{plain_query as plain_resolved};
 ghost use Rattle.history_model.specs.Histories.{History, catalog_of};
 ghost use Rattle.history_model.specs.OrdinaryQuery.{InAnswerOn};
-ghost use Rattle.period_keys.specs.Current.{rows_by_key};
 ghost use Rattle.sql_statements.specs.Plain.{plain, plain_query};
 ghost use Rattle.sql_statements.specs.Trees as statement;
 ghost use Rattle.version_store.specs.StoreState.{IsUsable, SparesOthers};
@@ -15,15 +14,15 @@ ghost use Rattle.script_engine.specs.engine.Audits.{AuditedStepsTo, IsAuditOf};
 ghost use Rattle.script_engine.specs.engine.Healthy.{StatementFailsOnFault};
 ghost use Rattle.script_engine.specs.engine.Over.{StepOver};
 ghost use Rattle.script_engine.specs.engine.Runs.{IsQuery, MayRefuseQuery};
-ghost use Rattle.script_engine.specs.engine.Stored.{EngineRepresents, KeepsOnErr, RowsRepresent};
+ghost use Rattle.script_engine.specs.engine.Stored.{EngineRepresents, KeepsOnErr};
+ghost use Rattle.script_engine.specs.engine.Stored.{TablesRepresent};
 
 use crate::engine::Engine;
+use crate::engine::in_memory::TablesInMemory;
 use crate::engine::needed::answer_query;
 use crate::engine::sequenced_queries::tables_of;
 use catalog_core::resolved::Query;
-use ended_versions::EndedVersions;
 use period_core::{Answer, Refusal};
-use period_keys::TableIndex;
 use snapshot_audit::{Verdict, audit};
 use sql_statements::{QueryTree, SelectDistinct, Statement, StatementForm};
 use sqlite_trees::store::Alter;
@@ -34,19 +33,18 @@ use std::alloc::Global;
 /// Audits the answer of a query, over all that its references see in memory.
 fn audit_of(
     alloc: Global,
-    tables: &[TableIndex],
-    ended: &[EndedVersions],
+    tables: &TablesInMemory,
     query: &Query,
     answer: &Answer,
 ) -> Result<Verdict, Refusal>
     ensures confirms { (history : History)
-        → RowsRepresent history (map rows_by_key tables.now) ended.now
+        → TablesRepresent history tables.now
         → IsOfCatalog (catalog_of history) (plain_resolved query.now)
         → IsSequencedAnswer (InAnswerOn history (plain_resolved query.now)) answer.now
         → IsAuditOf history (plain_resolved query.now) answer.now result }
     ensures memory { IfErr result (λ refusal. refusal ≡ Refusal.Memory) }
 {
-    let seen = tables_of(alloc, tables, ended, query)?;
+    let seen = tables_of(alloc, tables, query)?;
     let verdict = audit(alloc, query, &seen, answer)?;
     Ok(verdict)
 }
@@ -71,11 +69,9 @@ impl<S: Alter> Engine<S> {
             Ok(query) => query,
             Err(refusal) => return Entry::unaudited(Err(refusal)),
         };
-        let catalog = self.store.catalog();
-        match answer_query(alloc, catalog, &mut self.tables, &mut self.ended, &query) {
+        match answer_query(alloc, &mut self.tables, &query) {
             Ok(answer) => {
-                let tables = self.tables.as_slice();
-                let audit = audit_of(alloc, tables, self.ended.as_slice(), &query, &answer);
+                let audit = audit_of(alloc, &self.tables, &query, &answer);
                 Entry {
                     result: Ok(Outcome::Answer(answer)),
                     audit: Some(audit),

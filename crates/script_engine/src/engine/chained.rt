@@ -8,23 +8,21 @@ ghost use Rattle.period_keys.specs.Current.{rows_by_key};
 ghost use Rattle.script_engine.specs.engine.Ended.{ended_in};
 ghost use Rattle.script_engine.specs.engine.Reading.{AddRead, MayBeUnread, versions_in};
 
-use crate::engine::indexed::positions_of_number;
+use crate::engine::in_memory::TablesInMemory;
+use crate::engine::numbers::of_number_mut;
 use crate::engine::reading::{Access, Selection, read};
-use ended_versions::EndedVersions;
 use period_core::Memory;
-use period_keys::TableIndex;
 use std::alloc::Global;
 
-/// Chains the versions of the table of a number that have ended. Which they are stays the same.
-fn chain_table(alloc: Global, ended: &mut Vec<EndedVersions>, number: u8) -> Result<(), Memory>
-    ensures { ended.new.items ≡ ended.old.items }
-{
-    if number == 0 {
-        return Ok(());
-    }
-    match ended.get_mut(usize::from(number) - 1) {
-        Some(list) => list.chain(alloc),
-        None => Ok(()),
+impl TablesInMemory {
+    /// Chains the versions of the table of a number that have ended. Which they are stays the same.
+    fn chain(&mut self, alloc: Global, number: u8) -> Result<(), Memory>
+        ensures { self.new ≡ self.old }
+    {
+        let Some(list) = of_number_mut(&mut self.ended, number) else {
+            return Ok(());
+        };
+        list.chain(alloc)
     }
 }
 
@@ -33,23 +31,24 @@ fn chain_table(alloc: Global, ended: &mut Vec<EndedVersions>, number: u8) -> Res
 /// same.
 pub fn read_chained<S: Selection>(
     alloc: Global,
-    tables: &[TableIndex],
-    ended: &mut Vec<EndedVersions>,
+    tables: &mut TablesInMemory,
     access: &Access,
     selection: &S,
     rows: &mut Vec<S::Row>,
 ) -> Result<(), Memory>
     ensures read { (versions : List Version)
-        → Hold (ended_in ended.old.items access.now.table) versions
+        → Hold (ended_in tables.old.ended access.now.table) versions
         → OnOk result (AddRead (S.IsTaken selection.now)
         (MayBeUnread access.now (S.MayLack selection.now)) S.made
-        (versions_in (map rows_by_key tables.now) access.now.table versions)
+        (versions_in (map rows_by_key tables.old.current) access.now.table versions)
         rows.old.items rows.new.items) }
-    ensures same { ended.new.items ≡ ended.old.items }
+    ensures same { tables.new ≡ tables.old }
 {
-    let positions = positions_of_number(tables, access.table);
-    if access.ended_key(positions).is_some() {
-        chain_table(alloc, ended, access.table)?;
+    let is_of_key = access
+        .ended_key(tables.key_positions(access.table))
+        .is_some();
+    if is_of_key {
+        tables.chain(alloc, access.table)?;
     }
-    read(alloc, tables, ended.as_slice(), access, selection, rows)
+    read(alloc, tables, access, selection, rows)
 }

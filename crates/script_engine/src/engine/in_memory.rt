@@ -1,142 +1,138 @@
-//! The versions of the tables in memory, loaded from what was read of a store as it was opened.
+//! The tables in memory: the current versions of each, and those that have ended.
 
-ghost use Rattle.std.specs.Prelude.{◌≡◌, ◌⊎◌, ◌++◌, ℕ, [], IfErr, IfOk, IsPermutation, List, OnErr};
-ghost use Rattle.std.specs.Prelude.{OnOk, filter, length};
-ghost use Rattle.ended_versions.specs.Packed.{AreEndedBy, Hold};
-ghost use Rattle.period_core.specs.declared.refusal.Refusal.TheVariants.{Memory as OutOfMemory};
-ghost use Rattle.period_core.specs.declared.version.VersionRow.{VersionRow as Version};
+ghost use Rattle.std.specs.Prelude.{◌≡◌, ◌++◌, ◌∷◌, [], IfOk, List, MatchOption, None, OnErr, OnOk};
+ghost use Rattle.std.specs.Prelude.{Some, map};
+ghost use Rattle.catalog_core.specs.create.Lawful.{IsLawful};
+ghost use Rattle.catalog_core.specs.declared.table.TableDef.{TableDef as Definition};
+ghost use Rattle.catalog_core.specs.table.TableWords.{table_of};
+ghost use Rattle.ended_versions.specs.Packed.{PackedVersion};
+ghost use Rattle.period_keys.specs.Current.{rows_by_key};
 ghost use Rattle.period_keys.specs.Lawful.{key_positions};
-ghost use Rattle.period_keys.specs.Rows.{HasRows};
-ghost use Rattle.version_store.specs.Contents.{Contents, rows_of_table};
-ghost use Rattle.version_store.specs.GoodStore.{AreGood, NoExtraCondition};
-ghost use Rattle.version_store.specs.StoreState.{IsStoreRefusal};
-ghost use Rattle.script_engine.specs.engine.Ended.{AllEndedBy, HaveEnded, SomeEndedAfter};
-ghost use Rattle.script_engine.specs.engine.Ended.{has_ended, is_current};
-ghost use Rattle.script_engine.specs.engine.InMemory.{AreReadOf, HaveCurrentRows};
+ghost use Rattle.period_keys.specs.Rows.{RowsByKey};
+ghost use Rattle.script_engine.specs.engine.InMemory.{FollowCatalog};
+ghost use Rattle.script_engine.specs.engine.Reading.{positions_in};
 
-use crate::engine::closed::{load_ended, no_versions};
-use catalog_core::{Catalog, TableDef};
+use catalog_core::{Catalog, TableDef, of_number};
 use ended_versions::EndedVersions;
-use period_core::{Items, Memory, Moment, Refusal, VersionRow};
-use period_keys::{CurrentRows, positions_of};
+use period_core::{Items, Memory};
+use period_keys::{TableIndex, add_table, positions_of};
 use std::alloc::Global;
-use std::mem;
+use std::marker::Model;
 
-/// No rows of a table, by its key.
-fn no_rows(alloc: Global, table: &TableDef) -> Result<CurrentRows, Memory>
-    ensures keys { IfOk result (λ rows. rows.positions ≡ key_positions table.now) }
-    ensures none { IfOk result (λ rows. rows.rows ≡ []) }
+/// The tables of a catalog, in its order: the current versions of each, with the indexes that its
+/// references need, and those that have ended. The current ones are a list of their own, since a
+/// change is judged over those of several tables (`reference_fault`).
+#[derive(Drop)]
+pub struct TablesInMemory {
+    pub(super) current: Vec<TableIndex>,
+    pub(super) ended: Vec<EndedVersions>,
+}
+
+impl Model for TablesInMemory {
+    ghost use Rattle.std.specs.Prelude.{◌≡◌, length};
+    ghost use Rattle.script_engine.specs.engine.TablesState.{TablesState};
+
+    ghost Value = { TablesState };
+
+    ghost view = { λ t. record { current = t.current.items; ended = t.ended.items } };
+
+    ghost invariant = { λ t. length t.ended.items ≡ length t.current.items };
+}
+
+/// The versions of one table.
+#[derive(Clone, Copy)]
+pub struct VersionTable<'a> {
+    /// The current ones.
+    pub current: &'a TableIndex,
+    /// Those that have ended.
+    pub ended: &'a EndedVersions,
+}
+
+/// No versions of a table, to be found by its key.
+pub fn no_versions(alloc: Global, table: &TableDef) -> Result<EndedVersions, Memory>
+    ensures { IfOk result (λ list. list ≡ []) }
 {
     let positions = positions_of(alloc, table, table.key.as_slice())?;
-    Ok(CurrentRows::new(alloc, Items::from_vec(positions)))
+    Ok(EndedVersions::new(alloc, Items::from_vec(positions)))
 }
 
-/// Adds rows, one after the other.
-fn add_each(alloc: Global, current: &mut CurrentRows, rows: Vec<VersionRow>) -> Result<(), Memory>
-    ensures { OnOk result (HasRows (rows.items ++ current.old.rows) current.old current.new) }
-{
-    for row in rows {
-        current.add(alloc, row)?;
+impl TablesInMemory {
+    /// The current versions of each table.
+    pub fn current(&self) -> &[TableIndex]
+        ensures { result.now ≡ self.now.current }
+    {
+        self.current.as_slice()
     }
-    Ok(())
-}
 
-/// The versions in two lists: the current ones, and those that have ended.
-fn split_by_end(
-    alloc: Global,
-    versions: Vec<VersionRow>,
-) -> Result<(Vec<VersionRow>, Vec<VersionRow>), Memory>
-    ensures current { IfOk result (λ found. found.0.items ≡ filter is_current versions.items) }
-    ensures ended { IfOk result (λ found. found.1.items ≡ filter has_ended versions.items) }
-{
-    let forever = Moment::forever();
-    let mut current: Vec<VersionRow> = Vec::new(alloc);
-    let mut ended: Vec<VersionRow> = Vec::new(alloc);
-    for version in versions {
-        if version.to == forever {
-            current.push(version)?;
-        } else {
-            ended.push(version)?;
+    /// The versions of the table of a number.
+    pub fn table(&self, number: u8) -> Option<VersionTable<'_>>
+        ensures current { MatchOption result (table_of self.now.current number ≡ None)
+            (λ table. table_of self.now.current number ≡ Some table.current.now) }
+        ensures ended { MatchOption result (table_of self.now.ended number ≡ None)
+            (λ table. table_of self.now.ended number ≡ Some table.ended.now) }
+    {
+        Some(VersionTable {
+            current: of_number(self.current.as_slice(), number)?,
+            ended: of_number(self.ended.as_slice(), number)?,
+        })
+    }
+
+    /// The positions of the key among the values of a row of the table of a number. If no table has
+    /// it, none.
+    pub fn key_positions(&self, number: u8) -> &[usize]
+        ensures { result.now ≡ positions_in (map rows_by_key self.now.current) number }
+    {
+        match of_number(self.current.as_slice(), number) {
+            Some(table) => table.rows().positions(),
+            None => &[],
         }
     }
-    Ok((current, ended))
-}
 
-/// The versions of a table: the current ones by its key, and those that have ended. One that ended
-/// after the clock, which a good store has not, is a failure of the store.
-fn load_table(
-    alloc: Global,
-    table: &TableDef,
-    clock: Moment,
-    versions: Items<VersionRow>,
-) -> Result<(CurrentRows, EndedVersions), Refusal>
-    ensures keys { IfOk result (λ found. found.0.positions ≡ key_positions table.now) }
-    ensures current { IfOk result
-        (λ found. IsPermutation (filter is_current versions) found.0.rows) }
-    ensures ended { IfOk result (λ found. (ended : List Version)
-        × Hold found.1 ended × IsPermutation (filter has_ended versions) ended) }
-    ensures before { IfOk result (λ found. AreEndedBy clock found.1) }
-    ensures why { IfErr result (λ refusal. (refusal ≡ OutOfMemory)
-        ⊎ SomeEndedAfter clock (filter has_ended versions)) }
-    ensures named { IfErr result IsStoreRefusal }
-{
-    let mut rows = no_rows(alloc, table)?;
-    let none = no_versions(alloc, table)?;
-    let (current, ended) = split_by_end(alloc, versions.into_vec())?;
-    add_each(alloc, &mut rows, current)?;
-    let found = load_ended(alloc, none, ended, clock)?;
-    match found {
-        Some(list) => Ok((rows, list)),
-        None => Err(Refusal::Store),
+    /// Adds a table without versions, of a definition that the catalog does not have yet, with the
+    /// indexes that its references need. On an error no table is added, and those that exist have
+    /// the same versions.
+    pub fn add(
+        &mut self,
+        alloc: Global,
+        catalog: &Catalog,
+        definition: &TableDef,
+    ) -> Result<(), Memory>
+        requires follow { FollowCatalog catalog.now.tables self.old.current }
+        requires lawful { IsLawful catalog.now.tables definition.now }
+        ensures rows { OnOk result (map rows_by_key self.new.current
+            ≡ map rows_by_key self.old.current
+            ++ record { positions = key_positions definition.now; rows = [] } ∷ []) }
+        ensures follow { OnOk result
+            (FollowCatalog (catalog.now.tables ++ definition.now ∷ []) self.new.current) }
+        ensures none { OnErr result
+            ((map rows_by_key self.new.current ≡ map rows_by_key self.old.current)
+            × FollowCatalog catalog.now.tables self.new.current) }
+        ensures appended { OnOk result (self.new.ended ≡ self.old.ended ++ [] ∷ []) }
+        ensures unchanged { OnErr result (self.new.ended ≡ self.old.ended) }
+    {
+        let count = self.ended.len();
+        self.ended.push(no_versions(alloc, definition)?)?;
+        match add_table(alloc, catalog, &mut self.current, definition) {
+            Ok(()) => Ok(()),
+            Err(refused) => {
+                self.ended.truncate(count);
+                Err(refused)
+            }
+        }
     }
-}
 
-/// Takes the rows of the table of a number out of the lists.
-fn take_rows(alloc: Global, lists: &mut Vec<Items<VersionRow>>, number: u8) -> Items<VersionRow>
-    ensures taken { result ≡ rows_of_table lists.old.items number }
-    ensures others { (other : ℕ) → (other ≡ number → ⊥)
-        → rows_of_table lists.new.items other ≡ rows_of_table lists.old.items other }
-{
-    if number == 0 {
-        return Items::empty(alloc);
+    /// Removes the last table.
+    pub fn remove_last(&mut self)
+        ensures rows { (rows : List RowsByKey) (last : RowsByKey)
+            → map rows_by_key self.old.current ≡ rows ++ last ∷ []
+            → map rows_by_key self.new.current ≡ rows }
+        ensures follow { (catalog : List Definition) (last : Definition)
+            → FollowCatalog (catalog ++ last ∷ []) self.old.current
+            → FollowCatalog catalog self.new.current }
+        ensures ended { (lists : List (List PackedVersion)) (last : List PackedVersion)
+            → self.old.ended ≡ lists ++ last ∷ [] → self.new.ended ≡ lists }
+    {
+        let _table = self.current.pop();
+        let _ended = self.ended.pop();
     }
-    let Some(list) = lists.get_mut(usize::from(number) - 1) else {
-        return Items::empty(alloc);
-    };
-    mem::replace(list, Items::empty(alloc))
-}
-
-/// The versions of each table of a catalog, in its order, by the lists that were read of a store:
-/// the current ones, and those that have ended by the clock. Without tables nothing is refused.
-pub fn load(
-    alloc: Global,
-    catalog: &Catalog,
-    clock: Moment,
-    mut lists: Vec<Items<VersionRow>>,
-) -> Result<(Vec<CurrentRows>, Vec<EndedVersions>), Refusal>
-    ensures current { (c : Contents) → AreReadOf c catalog.now.tables lists.items
-        → IfOk result (λ found. HaveCurrentRows c found.0.items) }
-    ensures ended { (c : Contents) → AreReadOf c catalog.now.tables lists.items
-        → IfOk result (λ found. HaveEnded c found.1.items) }
-    ensures before { IfOk result (λ found. AllEndedBy clock found.1.items) }
-    ensures why { (c : Contents) → AreReadOf c catalog.now.tables lists.items
-        → AreGood NoExtraCondition c → c.clock ≡ clock
-        → IfErr result (λ refusal. refusal ≡ OutOfMemory) }
-    ensures count { IfOk result
-        (λ found. length found.0.items ≡ length catalog.now.tables) }
-    ensures ended_count { IfOk result
-        (λ found. length found.1.items ≡ length catalog.now.tables) }
-    ensures some { OnErr result (catalog.now.tables ≡ [] → ⊥) }
-    ensures named { IfErr result IsStoreRefusal }
-{
-    let mut tables = Vec::new(alloc);
-    let mut ended = Vec::new(alloc);
-    for place in 0..catalog.len() {
-        let versions = take_rows(alloc, &mut lists, place as u8 + 1);
-        let table = &catalog.tables.as_slice()[place];
-        let (rows, list) = load_table(alloc, table, clock, versions)?;
-        tables.push(rows)?;
-        ended.push(list)?;
-    }
-    Ok((tables, ended))
 }

@@ -3,64 +3,33 @@
 //! conditions leave a range of keys looks at the rows with a key in that range alone. One that
 //! joins a few rows with a later table by its key looks at the rows of their keys.
 
-ghost use Rattle.std.specs.Prelude.{◌≡◌, IfErr, IfOk, IfSome, OnOk, Some, length, map, min};
+ghost use Rattle.std.specs.List.{AllByRecursion};
+ghost use Rattle.std.specs.Prelude.{◌≡◌, IfErr, IfOk, IfSome, OnOk, length, map, min};
 ghost use Rattle.catalog_core.specs.declared.query.AnswerColumn.{AnswerColumn as Item};
-ghost use Rattle.catalog_core.specs.declared.table.TableDef.{TableDef as Definition};
-ghost use Rattle.catalog_core.specs.query.Queries.{plain_query};
-ghost use Rattle.catalog_core.specs.table.TableWords.{table_of, value_columns};
+ghost use Rattle.catalog_core.specs.query.Queries.{plain_query, references_of};
 ghost use Rattle.history_model.specs.Histories.{History, catalog_of};
 ghost use Rattle.history_model.specs.OrdinaryQuery.{InAnswerOn, VisibleInHistory};
 ghost use Rattle.period_core.specs.declared.refusal.Refusal.TheVariants.{Memory as OutOfMemory};
-ghost use Rattle.period_keys.specs.Current.{rows_by_key};
 ghost use Rattle.temporal_model.specs.Snapshot.{Equivalent};
 ghost use Rattle.version_store.specs.StoreState.{IsStoreRefusal};
 ghost use Rattle.script_engine.specs.Headline.{IsSequencedAnswer};
-ghost use Rattle.script_engine.specs.engine.Answering.{IsOfCatalog, columns_of};
+ghost use Rattle.script_engine.specs.engine.Answering.{IsKnown, IsOfCatalog, columns_of};
 ghost use Rattle.script_engine.specs.engine.Needed.{AddNeeded, ArePlaced, HaveRowFrom, IsNeeded};
 ghost use Rattle.script_engine.specs.engine.Needed.{IsNeededAfter, IsNeededBy, IsPrunedAfter};
 ghost use Rattle.script_engine.specs.engine.Needed.{SeeNeeded, SeesWidth};
-ghost use Rattle.script_engine.specs.engine.Stored.{RowsRepresent};
+ghost use Rattle.script_engine.specs.engine.Stored.{TablesRepresent};
 
 use crate::engine::chained::read_chained;
 use crate::engine::conditions::Conditions;
-use crate::engine::indexed::positions_of_number;
-use crate::engine::prepared::rows_left;
+use crate::engine::in_memory::TablesInMemory;
 use crate::engine::reading::Access;
 use crate::engine::sequenced_queries::evaluate;
 use catalog_core::resolved::{Query, QueryReference, Tables};
-use catalog_core::{Catalog, Cond, TableDef, fits, is_value_column};
+use catalog_core::{Cond, fits};
 use coalesce_core::coalesce;
-use ended_versions::EndedVersions;
 use period_core::{Answer, Items, Memory, PeriodRow, Refusal, Value, Window};
-use period_keys::{KeyRange, RowConditions, RowRange, TableIndex, range_of_key_after};
+use period_keys::{KeyRange, RowConditions, RowRange, range_of_key_after};
 use std::alloc::Global;
-
-// ---- the width of rows
-
-/// The number of values of a table's rows.
-fn width_of(table: &TableDef) -> usize
-    ensures { result ≡ length (value_columns table.now) }
-{
-    let columns = table.columns.as_slice();
-    let mut width = 0;
-    for i in 0..columns.len() {
-        if is_value_column(table, i, &columns[i]) {
-            width += 1;
-        }
-    }
-    width
-}
-
-/// The number of values of the rows of the table of a number.
-fn width_of_number(catalog: &Catalog, number: u8) -> usize
-    ensures { (d : Definition) → table_of catalog.now.tables number ≡ Some d
-        → result ≡ length (value_columns d) }
-{
-    match catalog.def(number) {
-        Some(table) => width_of(table),
-        None => 0,
-    }
-}
 
 // ---- rows that are looked up
 
@@ -146,20 +115,18 @@ fn once_each(alloc: Global, rows: Vec<PeriodRow>, times: usize) -> Result<Vec<Pe
 /// ended versions that the window sees would be read several times.
 fn looked_up(
     alloc: Global,
-    tables: &mut Vec<TableIndex>,
-    ended: &mut Vec<EndedVersions>,
+    tables: &mut TablesInMemory,
     conditions: &Conditions,
     at: usize,
     previous: &[PeriodRow],
 ) -> Result<Option<Vec<PeriodRow>>, Memory>
     ensures needed { IfOk result (λ found. IfSome found (λ rows. (history : History)
-        → RowsRepresent history (map rows_by_key tables.old.items) ended.old.items
+        → TablesRepresent history tables.old
         → SeesWidth history conditions.now.reference.now conditions.now.width
         → IsPrunedAfter (HaveRowFrom previous.now at) conditions.now.conjuncts.now
         conditions.now.start
         (λ day. VisibleInHistory history day conditions.now.reference.now) rows.items)) }
-    ensures tables { tables.new.items ≡ tables.old.items }
-    ensures same { ended.new.items ≡ ended.old.items }
+    ensures same { tables.new ≡ tables.old }
 {
     if previous.len() > FEW {
         return Ok(None);
@@ -170,7 +137,7 @@ fn looked_up(
         start,
         width,
     } = *conditions;
-    let alone = rows_left(alloc, tables, reference.table, conditions)?;
+    let alone = tables.rows_left(alloc, reference.table, conditions)?;
     let mut rows = Vec::new(alloc);
     for row in previous {
         let known = row.values.as_slice();
@@ -181,16 +148,15 @@ fn looked_up(
             start,
             width,
         };
-        let left = rows_left(alloc, tables, reference.table, &after)?;
-        let tables = tables.as_slice();
-        let positions = positions_of_number(tables, reference.table);
+        let left = tables.rows_left(alloc, reference.table, &after)?;
+        let positions = tables.key_positions(reference.table);
         let is_few = rows.len() <= MANY && is_narrower(&left, &alone, positions);
         let access = Access::of(reference, left);
         let is_once = reference.window == Window::Now || previous.len() == 1;
         if !is_few || !is_once && access.ended_key(positions).is_none() {
             return Ok(None);
         }
-        read_chained(alloc, tables, ended, &access, conditions, &mut rows)?;
+        read_chained(alloc, tables, &access, conditions, &mut rows)?;
     }
     Ok(Some(once_each(alloc, rows, previous.len())?))
 }
@@ -200,24 +166,21 @@ fn looked_up(
 /// The rows that a table reference has to see: those that the conditions leave.
 fn needed_by(
     alloc: Global,
-    tables: &mut Vec<TableIndex>,
-    ended: &mut Vec<EndedVersions>,
+    tables: &mut TablesInMemory,
     conditions: &Conditions,
 ) -> Result<Vec<PeriodRow>, Memory>
     ensures needed { IfOk result (λ rows. (history : History)
-        → RowsRepresent history (map rows_by_key tables.old.items) ended.old.items
+        → TablesRepresent history tables.old
         → SeesWidth history conditions.now.reference.now conditions.now.width
         → IsNeeded history conditions.now.conjuncts.now conditions.now.start
         conditions.now.reference.now rows.items) }
-    ensures tables { tables.new.items ≡ tables.old.items }
-    ensures same { ended.new.items ≡ ended.old.items }
+    ensures same { tables.new ≡ tables.old }
 {
     let reference = conditions.reference;
-    let left = rows_left(alloc, tables, reference.table, conditions)?;
+    let left = tables.rows_left(alloc, reference.table, conditions)?;
     let access = Access::of(reference, left);
-    let tables = tables.as_slice();
     let mut rows = Vec::new(alloc);
-    read_chained(alloc, tables, ended, &access, conditions, &mut rows)?;
+    read_chained(alloc, tables, &access, conditions, &mut rows)?;
     Ok(rows)
 }
 
@@ -234,19 +197,17 @@ struct PlacedLists {
 /// that it has to see whatever comes before them.
 fn needed_after(
     alloc: Global,
-    tables: &mut Vec<TableIndex>,
-    ended: &mut Vec<EndedVersions>,
+    tables: &mut TablesInMemory,
     conditions: &Conditions,
     earlier: &PlacedLists,
 ) -> Result<Vec<PeriodRow>, Memory>
     ensures needed { IfOk result (λ rows. (history : History)
-        → RowsRepresent history (map rows_by_key tables.old.items) ended.old.items
+        → TablesRepresent history tables.old
         → SeesWidth history conditions.now.reference.now conditions.now.width
         → ArePlaced earlier.now.lists.items earlier.now.places.items conditions.now.start
         → IsNeededAfter history earlier.now.lists.items conditions.now.conjuncts.now
         conditions.now.start conditions.now.reference.now rows.items) }
-    ensures tables { tables.new.items ≡ tables.old.items }
-    ensures same { ended.new.items ≡ ended.old.items }
+    ensures same { tables.new ≡ tables.old }
 {
     let places = earlier.places.as_slice();
     for i in 0..places.len() {
@@ -255,69 +216,63 @@ fn needed_after(
             continue;
         };
         let rows = previous.as_slice();
-        let found = looked_up(alloc, tables, ended, conditions, places[last], rows)?;
+        let found = looked_up(alloc, tables, conditions, places[last], rows)?;
         if let Some(rows) = found {
             return Ok(rows);
         }
     }
-    needed_by(alloc, tables, ended, conditions)
+    needed_by(alloc, tables, conditions)
 }
 
 /// Adds to lists, which those before them in a select see, what each of these references has to
 /// see, in their order. The values of the first begin at this position of a combined row.
 fn push_needed_by_each(
     alloc: Global,
-    catalog: &Catalog,
-    tables: &mut Vec<TableIndex>,
-    ended: &mut Vec<EndedVersions>,
+    tables: &mut TablesInMemory,
     conjuncts: &[Cond],
     start: usize,
     references: &[QueryReference],
     seen: &mut PlacedLists,
 ) -> Result<(), Memory>
-    ensures needed { (history : History) → (catalog.now.tables ≡ catalog_of history)
-        → RowsRepresent history (map rows_by_key tables.old.items) ended.old.items
+    ensures needed { (history : History) → TablesRepresent history tables.old
+        → AllByRecursion (IsKnown (catalog_of history)) references.now
         → ArePlaced seen.old.lists.items seen.old.places.items start
         → OnOk result (AddNeeded
         (SeeNeeded history conjuncts.now seen.old.lists.items start references.now)
         seen.old.lists.items seen.new.lists.items) }
-    ensures tables { tables.new.items ≡ tables.old.items }
-    ensures same { ended.new.items ≡ ended.old.items }
+    ensures same { tables.new ≡ tables.old }
 {
     let [reference, more @ ..] = references else {
         return Ok(());
     };
-    let width = width_of_number(catalog, reference.table);
+    let width = reference.kinds.len();
     let conditions = Conditions {
         reference,
         conjuncts,
         start,
         width,
     };
-    let rows = needed_after(alloc, tables, ended, &conditions, seen)?;
+    let rows = needed_after(alloc, tables, &conditions, seen)?;
     seen.places.push(start)?;
     seen.lists.push(Items::from_vec(rows))?;
     let Some(next) = start.checked_add(width) else {
         return Err(Memory);
     };
-    push_needed_by_each(alloc, catalog, tables, ended, conjuncts, next, more, seen)
+    push_needed_by_each(alloc, tables, conjuncts, next, more, seen)
 }
 
 /// Adds to lists what each of the references of a query has to see, in the order of the text.
 fn push_needed_tables(
     alloc: Global,
-    catalog: &Catalog,
-    tables: &mut Vec<TableIndex>,
-    ended: &mut Vec<EndedVersions>,
+    tables: &mut TablesInMemory,
     query: &Query,
     lists: &mut Vec<Items<PeriodRow>>,
 ) -> Result<(), Memory>
-    ensures needed { (history : History) → (catalog.now.tables ≡ catalog_of history)
-        → RowsRepresent history (map rows_by_key tables.old.items) ended.old.items
+    ensures needed { (history : History) → TablesRepresent history tables.old
+        → AllByRecursion (IsKnown (catalog_of history)) (references_of (plain_query query.now))
         → OnOk result (AddNeeded (IsNeededBy history (plain_query query.now))
         lists.old.items lists.new.items) }
-    ensures tables { tables.new.items ≡ tables.old.items }
-    ensures same { ended.new.items ≡ ended.old.items }
+    ensures same { tables.new ≡ tables.old }
 {
     match query {
         Query::Select(select) => {
@@ -327,15 +282,13 @@ fn push_needed_tables(
                 places: Vec::new(alloc),
                 lists: Vec::new(alloc),
             };
-            push_needed_by_each(
-                alloc, catalog, tables, ended, conjuncts, 0, references, &mut seen,
-            )?;
+            push_needed_by_each(alloc, tables, conjuncts, 0, references, &mut seen)?;
             lists.append(&mut seen.lists)?;
             Ok(())
         }
         Query::Combined(_, left, right) => {
-            push_needed_tables(alloc, catalog, tables, ended, left, lists)?;
-            push_needed_tables(alloc, catalog, tables, ended, right, lists)
+            push_needed_tables(alloc, tables, left, lists)?;
+            push_needed_tables(alloc, tables, right, lists)
         }
     }
 }
@@ -343,20 +296,17 @@ fn push_needed_tables(
 /// Rows that the table references of a query have to see, in the order of the text.
 fn needed_tables(
     alloc: Global,
-    catalog: &Catalog,
-    tables: &mut Vec<TableIndex>,
-    ended: &mut Vec<EndedVersions>,
+    tables: &mut TablesInMemory,
     query: &Query,
 ) -> Result<Tables, Memory>
     ensures needed { IfOk result (λ needed. (history : History)
-        → (catalog.now.tables ≡ catalog_of history)
-        → RowsRepresent history (map rows_by_key tables.old.items) ended.old.items
+        → TablesRepresent history tables.old
+        → AllByRecursion (IsKnown (catalog_of history)) (references_of (plain_query query.now))
         → IsNeededBy history (plain_query query.now) needed) }
-    ensures tables { tables.new.items ≡ tables.old.items }
-    ensures same { ended.new.items ≡ ended.old.items }
+    ensures same { tables.new ≡ tables.old }
 {
     let mut lists = Vec::new(alloc);
-    push_needed_tables(alloc, catalog, tables, ended, query, &mut lists)?;
+    push_needed_tables(alloc, tables, query, &mut lists)?;
     Ok(Tables::new(Items::from_vec(lists)))
 }
 
@@ -366,25 +316,21 @@ fn needed_tables(
 /// afterwards, chained if that may help.
 pub fn answer_query(
     alloc: Global,
-    catalog: &Catalog,
-    tables: &mut Vec<TableIndex>,
-    ended: &mut Vec<EndedVersions>,
+    tables: &mut TablesInMemory,
     query: &Query,
 ) -> Result<Answer, Refusal>
-    ensures right { (history : History) → (catalog.now.tables ≡ catalog_of history)
-        → RowsRepresent history (map rows_by_key tables.old.items) ended.old.items
+    ensures right { (history : History) → TablesRepresent history tables.old
+        → IsOfCatalog (catalog_of history) (plain_query query.now)
         → IfOk result (IsSequencedAnswer (InAnswerOn history (plain_query query.now))) }
-    ensures why { (history : History) → (catalog.now.tables ≡ catalog_of history)
-        → RowsRepresent history (map rows_by_key tables.old.items) ended.old.items
-        → IsOfCatalog catalog.now.tables (plain_query query.now)
+    ensures why { (history : History) → TablesRepresent history tables.old
+        → IsOfCatalog (catalog_of history) (plain_query query.now)
         → IfErr result (λ refusal. refusal ≡ OutOfMemory) }
     ensures columns { IfOk result (λ answer. answer.columns
         ≡ map (λ (item : Item). item.name) (columns_of (plain_query query.now))) }
     ensures named { IfErr result IsStoreRefusal }
-    ensures tables { tables.new.items ≡ tables.old.items }
-    ensures same { ended.new.items ≡ ended.old.items }
+    ensures same { tables.new ≡ tables.old }
 {
-    let needed = needed_tables(alloc, catalog, tables, ended, query)?;
+    let needed = needed_tables(alloc, tables, query)?;
     if !fits(query, &needed) {
         return Err(Refusal::Store);
     }

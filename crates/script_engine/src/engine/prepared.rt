@@ -3,6 +3,8 @@
 
 ghost use Rattle.std.specs.Prelude.{◌≡◌, IfOk};
 
+use crate::engine::in_memory::TablesInMemory;
+use crate::engine::numbers::of_number_mut;
 use catalog_core::Change;
 use period_core::Memory;
 use period_keys::{RowConditions, RowRange, TableIndex, prepare_plan};
@@ -25,38 +27,31 @@ fn rows_of_table<C: RowConditions>(
     Ok(rows)
 }
 
-/// The rows of the table of a number that conditions leave, as of a table. If no table has it, they
-/// are told by no values.
-pub fn rows_left<C: RowConditions>(
-    alloc: Global,
-    tables: &mut Vec<TableIndex>,
-    number: u8,
-    conditions: &C,
-) -> Result<RowRange, Memory>
-    ensures left { IfOk result (λ rows. C.IsRange conditions.now rows.positions rows.range) }
-    ensures same { tables.new.items ≡ tables.old.items }
-{
-    if number > 0 {
-        if let Some(table) = tables.get_mut(usize::from(number) - 1) {
-            return rows_of_table(alloc, table, conditions);
-        }
+impl TablesInMemory {
+    /// The rows of the table of a number that conditions leave, as of a table. If no table has it,
+    /// they are told by no values.
+    pub fn rows_left<C: RowConditions>(
+        &mut self,
+        alloc: Global,
+        number: u8,
+        conditions: &C,
+    ) -> Result<RowRange, Memory>
+        ensures left { IfOk result (λ rows. C.IsRange conditions.now rows.positions rows.range) }
+        ensures same { self.new ≡ self.old }
+    {
+        let Some(table) = of_number_mut(&mut self.current, number) else {
+            return RowRange::at(alloc, &[], conditions.range_at(alloc, &[])?);
+        };
+        rows_of_table(alloc, table, conditions)
     }
-    RowRange::at(alloc, &[], conditions.range_at(alloc, &[])?)
-}
 
-/// Makes the index by which the rows are found that a change may touch, if there is to be one.
-pub fn prepare_change(
-    alloc: Global,
-    tables: &mut Vec<TableIndex>,
-    change: &Change,
-) -> Result<(), Memory>
-    ensures { tables.new.items ≡ tables.old.items }
-{
-    if change.table == 0 {
-        return Ok(());
-    }
-    match tables.get_mut(usize::from(change.table) - 1) {
-        Some(table) => prepare_plan(alloc, table, &change.action),
-        None => Ok(()),
+    /// Makes the index by which the rows are found that a change may touch, if there is to be one.
+    pub fn prepare_change(&mut self, alloc: Global, change: &Change) -> Result<(), Memory>
+        ensures { self.new ≡ self.old }
+    {
+        let Some(table) = of_number_mut(&mut self.current, change.table) else {
+            return Ok(());
+        };
+        prepare_plan(alloc, table, &change.action)
     }
 }

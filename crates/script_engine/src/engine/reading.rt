@@ -8,12 +8,10 @@ ghost use Rattle.period_core.specs.declared.version.VersionRow.{VersionRow as Ve
 ghost use Rattle.period_keys.specs.Current.{rows_by_key};
 ghost use Rattle.period_keys.specs.Versions.{has_key_in, version_key};
 ghost use Rattle.script_engine.specs.engine.Ended.{ended_in};
-ghost use Rattle.script_engine.specs.engine.InMemory.{rows_in};
 ghost use Rattle.script_engine.specs.engine.Reading.{AddRead, AreTaken, IsSeen, MayBeUnread};
 ghost use Rattle.script_engine.specs.engine.Reading.{versions_in};
 
-use crate::engine::indexed::positions_of_number;
-use catalog_core::of_number;
+use crate::engine::in_memory::TablesInMemory;
 use catalog_core::resolved::QueryReference;
 use ended_versions::EndedVersions;
 use period_core::{Memory, Value, VersionRow, Window};
@@ -149,18 +147,15 @@ fn read_within<S: Selection>(
 /// Adds the rows of the current versions.
 fn read_current<S: Selection>(
     alloc: Global,
-    tables: &[TableIndex],
     access: &Access,
     selection: &S,
+    table: &TableIndex,
     rows: &mut Vec<S::Row>,
 ) -> Result<(), Memory>
     ensures { OnOk result (AddRead (S.IsTaken selection.now)
         (MayBeUnread access.now (S.MayLack selection.now)) S.made
-        (rows_in (map rows_by_key tables.now) access.now.table) rows.old.items rows.new.items) }
+        table.now.rows rows.old.items rows.new.items) }
 {
-    let Some(table) = of_number(tables, access.table) else {
-        return Ok(());
-    };
     if access.rows.range.is_all() {
         return read_all(alloc, selection, table.rows(), rows);
     }
@@ -215,22 +210,22 @@ fn read_list<S: Selection>(
 /// Adds the rows of the versions that an access leaves and a selection takes, of those in memory.
 pub fn read<S: Selection>(
     alloc: Global,
-    tables: &[TableIndex],
-    ended: &[EndedVersions],
+    tables: &TablesInMemory,
     access: &Access,
     selection: &S,
     rows: &mut Vec<S::Row>,
 ) -> Result<(), Memory>
-    ensures { (versions : List Version) → Hold (ended_in ended.now access.now.table) versions
+    ensures { (versions : List Version)
+        → Hold (ended_in tables.now.ended access.now.table) versions
         → OnOk result (AddRead (S.IsTaken selection.now)
         (MayBeUnread access.now (S.MayLack selection.now)) S.made
-        (versions_in (map rows_by_key tables.now) access.now.table versions)
+        (versions_in (map rows_by_key tables.now.current) access.now.table versions)
         rows.old.items rows.new.items) }
 {
-    read_current(alloc, tables, access, selection, rows)?;
-    let positions = positions_of_number(tables, access.table);
-    match of_number(ended, access.table) {
-        Some(list) => read_list(alloc, access, selection, positions, list, rows),
-        None => Ok(()),
-    }
+    let Some(table) = tables.table(access.table) else {
+        return Ok(());
+    };
+    read_current(alloc, access, selection, table.current, rows)?;
+    let positions = table.current.rows().positions();
+    read_list(alloc, access, selection, positions, table.ended, rows)
 }

@@ -8,19 +8,18 @@ ghost use Rattle.catalog_core.specs.query.Fitting.{fits};
 ghost use Rattle.catalog_core.specs.query.Queries.{plain_query, references_of};
 ghost use Rattle.history_model.specs.Histories.{History};
 ghost use Rattle.history_model.specs.OrdinaryQuery.{InAnswerOver};
-ghost use Rattle.period_keys.specs.Current.{rows_by_key};
 ghost use Rattle.script_engine.specs.Headline.{IsSequencedAnswer};
 ghost use Rattle.script_engine.specs.engine.Answering.{EachSees, SeesRows, columns_of};
-ghost use Rattle.script_engine.specs.engine.Stored.{RowsRepresent};
+ghost use Rattle.script_engine.specs.engine.Stored.{TablesRepresent};
 
 use crate::engine::conditions::Conditions;
+use crate::engine::in_memory::TablesInMemory;
 use crate::engine::reading::{Access, read};
 use catalog_core::AnswerColumn;
 use catalog_core::resolved::{Query, QueryReference, Tables};
 use coalesce_core::{coalesce, witnesses};
-use ended_versions::EndedVersions;
 use period_core::{Answer, Items, Memory, PeriodRow, Text};
-use period_keys::{RowRange, TableIndex};
+use period_keys::RowRange;
 use sequenced_ops::run_query;
 use std::alloc::Global;
 
@@ -30,12 +29,11 @@ use std::alloc::Global;
 /// come in any order, with overlaps and repeats.
 fn seen_by(
     alloc: Global,
-    tables: &[TableIndex],
-    ended: &[EndedVersions],
+    tables: &TablesInMemory,
     reference: &QueryReference,
 ) -> Result<Items<PeriodRow>, Memory>
     ensures { IfOk result (λ rows. (history : History)
-        → RowsRepresent history (map rows_by_key tables.now) ended.now
+        → TablesRepresent history tables.now
         → SeesRows history reference.now rows) }
 {
     let access = Access::of(reference, RowRange::all(alloc));
@@ -46,7 +44,7 @@ fn seen_by(
         width: 0,
     };
     let mut rows = Vec::new(alloc);
-    read(alloc, tables, ended, &access, &unconditional, &mut rows)?;
+    read(alloc, tables, &access, &unconditional, &mut rows)?;
     Ok(Items::from_vec(rows))
 }
 
@@ -55,17 +53,16 @@ fn seen_by(
 /// Adds to lists what each of the table references sees, in their order.
 fn push_seen(
     alloc: Global,
-    tables: &[TableIndex],
-    ended: &[EndedVersions],
+    tables: &TablesInMemory,
     references: &[QueryReference],
     lists: &mut Vec<Items<PeriodRow>>,
 ) -> Result<(), Memory>
-    ensures { (history : History) → RowsRepresent history (map rows_by_key tables.now) ended.now
+    ensures { (history : History) → TablesRepresent history tables.now
         → (before : List Ref) → EachSees history before lists.old.items
         → OnOk result (EachSees history (before ++ references.now) lists.new.items) }
 {
     for reference in references {
-        lists.push(seen_by(alloc, tables, ended, reference)?)?;
+        lists.push(seen_by(alloc, tables, reference)?)?;
     }
     Ok(())
 }
@@ -73,40 +70,32 @@ fn push_seen(
 /// Adds to lists what each of the references of a query sees, in the order of the text.
 fn push_tables(
     alloc: Global,
-    tables: &[TableIndex],
-    ended: &[EndedVersions],
+    tables: &TablesInMemory,
     query: &Query,
     lists: &mut Vec<Items<PeriodRow>>,
 ) -> Result<(), Memory>
-    ensures { (history : History) → RowsRepresent history (map rows_by_key tables.now) ended.now
+    ensures { (history : History) → TablesRepresent history tables.now
         → (before : List Ref) → EachSees history before lists.old.items
         → OnOk result (EachSees history
         (before ++ references_of (plain_query query.now)) lists.new.items) }
 {
     match query {
-        Query::Select(select) => {
-            push_seen(alloc, tables, ended, select.references.as_slice(), lists)
-        }
+        Query::Select(select) => { push_seen(alloc, tables, select.references.as_slice(), lists) }
         Query::Combined(_, left, right) => {
-            push_tables(alloc, tables, ended, left, lists)?;
-            push_tables(alloc, tables, ended, right, lists)
+            push_tables(alloc, tables, left, lists)?;
+            push_tables(alloc, tables, right, lists)
         }
     }
 }
 
 /// Rows that the table references of a query see, in the order of the text.
-pub fn tables_of(
-    alloc: Global,
-    tables: &[TableIndex],
-    ended: &[EndedVersions],
-    query: &Query,
-) -> Result<Tables, Memory>
+pub fn tables_of(alloc: Global, tables: &TablesInMemory, query: &Query) -> Result<Tables, Memory>
     ensures { IfOk result (λ seen. (history : History)
-        → RowsRepresent history (map rows_by_key tables.now) ended.now
+        → TablesRepresent history tables.now
         → EachSees history (references_of (plain_query query.now)) seen) }
 {
     let mut lists = Vec::new(alloc);
-    push_tables(alloc, tables, ended, query, &mut lists)?;
+    push_tables(alloc, tables, query, &mut lists)?;
     Ok(Tables::new(Items::from_vec(lists)))
 }
 

@@ -11,12 +11,11 @@ ghost use Rattle.script_engine.specs.engine.InMemory.{HaveCurrentRows};
 ghost use Rattle.script_engine.specs.engine.VersionLists.{AreShownIn};
 
 use crate::engine::chained::read_chained;
-use crate::engine::prepared::rows_left;
+use crate::engine::in_memory::TablesInMemory;
 use crate::engine::reading::{Access, Selection};
 use catalog_core::{Stored, meets};
-use ended_versions::EndedVersions;
 use period_core::{Memory, VersionRow};
-use period_keys::{RowRange, TableIndex};
+use period_keys::RowRange;
 use std::alloc::Global;
 
 impl Selection for Stored {
@@ -46,13 +45,13 @@ impl Selection for Stored {
 
 /// The rows of its table that a query's condition leaves: each version that it shows is one of
 /// them.
-fn rows_of(alloc: Global, tables: &mut Vec<TableIndex>, query: &Stored) -> Result<RowRange, Memory>
+fn rows_of(alloc: Global, tables: &mut TablesInMemory, query: &Stored) -> Result<RowRange, Memory>
     ensures left { IfOk result (λ rows. (version : Version) → is_shown query.now version ≡ true
         → has_key_in rows.positions rows.range version ≡ true) }
-    ensures same { tables.new.items ≡ tables.old.items }
+    ensures same { tables.new ≡ tables.old }
 {
     match &query.condition {
-        Some(condition) => rows_left(alloc, tables, query.table, condition),
+        Some(condition) => tables.rows_left(alloc, query.table, condition),
         None => Ok(RowRange::all(alloc)),
     }
 }
@@ -62,15 +61,13 @@ fn rows_of(alloc: Global, tables: &mut Vec<TableIndex>, query: &Stored) -> Resul
 /// if that may help.
 pub fn shown_by(
     alloc: Global,
-    tables: &mut Vec<TableIndex>,
-    ended: &mut Vec<EndedVersions>,
+    tables: &mut TablesInMemory,
     query: &Stored,
 ) -> Result<Vec<VersionRow>, Memory>
     ensures right { IfOk result (λ rows. (c : Contents)
-        → HaveCurrentRows c (map rows_by_key tables.old.items) → HaveEnded c ended.old.items
+        → HaveCurrentRows c (map rows_by_key tables.old.current) → HaveEnded c tables.old.ended
         → AreShownIn c query.now rows.items) }
-    ensures tables { tables.new.items ≡ tables.old.items }
-    ensures same { ended.new.items ≡ ended.old.items }
+    ensures same { tables.new ≡ tables.old }
 {
     let access = Access {
         window: query.window,
@@ -78,7 +75,7 @@ pub fn shown_by(
         rows: rows_of(alloc, tables, query)?,
     };
     let mut shown = Vec::new(alloc);
-    read_chained(alloc, tables.as_slice(), ended, &access, query, &mut shown)?;
+    read_chained(alloc, tables, &access, query, &mut shown)?;
     shown.sort()?;
     Ok(shown)
 }

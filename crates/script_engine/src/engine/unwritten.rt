@@ -68,7 +68,7 @@ impl<S: Alter> Engine<S> {
             Ok(change) => change,
             Err(refusal) => return refusal,
         };
-        match lawful_plan(alloc, self.store.catalog(), self.tables.as_slice(), change) {
+        match lawful_plan(alloc, self.store.catalog(), self.tables.current(), change) {
             Ok(made) => {
                 drop(made);
                 Refusal::Store

@@ -1,4 +1,4 @@
-use Rattle.std.proofs.Common.{◌≡◌, ◌∙◌, List, ap, ap₂, inl, map, refl, subst, sym}
+use Rattle.std.proofs.Common.{◌≡◌, ◌∙◌, List, ap, inl, refl, subst, sym}
 use Rattle.std.proofs.lemmas.Result.{err_from_is_err_and}
 use Rattle.period_core.specs.Leasts.{MayAnswer, NoneApplies}
 use Rattle.sql_statements.specs.Plain.{plain_query}
@@ -9,12 +9,10 @@ use Rattle.catalog_core.specs.query.Queries as resolved
 use Rattle.statement_resolution.specs.query.Resolving.{ResolvesQuery, query_conditions}
 use Rattle.catalog_core.specs.declared.table.TableDef.{TableDef}
 use Rattle.catalog_core.specs.declared.table.catalog.Catalog.{Catalog}
-use Rattle.period_keys.specs.Current.{rows_by_key}
-use Rattle.script_engine.specs.engine.EngineState.{EngineState, engine_of}
+use Rattle.script_engine.specs.engine.EngineState.{EngineState, engine_with}
 use Rattle.statement_reports.specs.declared.outcome.Outcome.TheVariants.{Answer as Answered}
 use Rattle.script_engine.proofs.Answered.{answered_step, failed_answer}
-use Rattle.script_engine.proofs.Fits.{of_catalog}
-use Rattle.script_engine.proofs.Handed.{handed_catalog, handed_rows, has_the_same}
+use Rattle.script_engine.proofs.Handed.{handed_query, handed_rows, has_the_same}
 use Rattle.script_engine.proofs.Refused.{failed_query}
 use Rattle.script_engine.proofs.OverFacts.{asked_over, untouched_over}
 use Rattle.script_engine.proofs.SameInMemory.{failed_over}
@@ -27,17 +25,14 @@ returns-clause-step g c usable history kept =
     let query = resolved.plain_query c.in_ok-query.query in
     let old : EngineState g.row.S.Denot = c.args.self.now in
     let catalog : c.catalog.result.now ≡ old.catalog = c.catalog.ensures ∙ ap (λ (e : EngineState g.row.S.Denot). e.catalog) c.self.view_is in
-    let new : EngineState g.row.S.Denot = engine_of c.self.inside.store (map rows_by_key c.answer_query.new.tables.items) c.answer_query.new.ended.items in
-    let same : new ≡ old = ap₂ (λ ts es. engine_of c.self.inside.store (map rows_by_key ts) es) c.answer_query.ensures.tables c.answer_query.ensures.same ∙ c.self.view_is in
-    let rows =
-    handed_rows g.S.Store history old kept (map rows_by_key c.self.inside.tables.items) c.self.inside.ended.items
-    (ap (λ (e : EngineState g.row.S.Denot). e.tables) c.self.view_is)
-    (ap (λ (e : EngineState g.row.S.Denot). e.ended) c.self.view_is) in
-    let known = handed_catalog g.S.Store history old kept c.catalog-catalog.result.now (c.catalog-catalog.ensures ∙ ap (λ (e : EngineState g.row.S.Denot). e.catalog) c.self.view_is) in
+    let new : EngineState g.row.S.Denot = engine_with c.self.inside.store c.answer_query.new.tables in
+    let same : new ≡ old = ap (engine_with c.self.inside.store) c.answer_query.ensures.same ∙ c.self.view_is in
+    let rows = handed_rows g.S.Store history old kept c.self.inside.store c.self.inside.tables c.self.view_is in
+    let found : ResolvesQuery old.catalog.tables s query = subst (λ (k : Catalog). ResolvesQuery k.tables s query) catalog c.in_ok-query.ensures.resolved in
+    let known = handed_query g.S.Store history old kept asked query found in
     answered_step g.S.Store history old asked kept new query c.in_ok-answer.answer
     (subst (λ (k : Catalog). NoneApplies (Holds (query_conditions k.tables s))) catalog c.in_ok-query.ensures.sound)
-    (subst (λ (k : Catalog). ResolvesQuery k.tables s query) catalog c.in_ok-query.ensures.resolved)
-    (has_the_same g.S.Store history old kept new same) c.in_ok-answer.ensures.columns (c.in_ok-answer.ensures.right history known rows)
+    found (has_the_same g.S.Store history old kept new same) c.in_ok-answer.ensures.columns (c.in_ok-answer.ensures.right history rows known)
 
 pub returns-in_err-answer-clause-step : goal.returns-in_err-answer-clause-step
 returns-in_err-answer-clause-step g c usable history kept =
@@ -46,8 +41,8 @@ returns-in_err-answer-clause-step g c usable history kept =
     let s : Statement = statement.sequenced asked in
     let old : EngineState g.row.S.Denot = c.args.self.now in
     let catalog : c.catalog.result.now ≡ old.catalog = c.catalog.ensures ∙ ap (λ (e : EngineState g.row.S.Denot). e.catalog) c.self.view_is in
-    let new : EngineState g.row.S.Denot = engine_of c.self.inside.store (map rows_by_key c.answer_query.new.tables.items) c.answer_query.new.ended.items in
-    let same : new ≡ old = ap₂ (λ ts es. engine_of c.self.inside.store (map rows_by_key ts) es) c.answer_query.ensures.tables c.answer_query.ensures.same ∙ c.self.view_is in
+    let new : EngineState g.row.S.Denot = engine_with c.self.inside.store c.answer_query.new.tables in
+    let same : new ≡ old = ap (engine_with c.self.inside.store) c.answer_query.ensures.same ∙ c.self.view_is in
     failed_answer g.S.Store history old asked kept new c.in_err-answer.field-0.0
     (subst (λ (k : Catalog). NoneApplies (Holds (query_conditions k.tables s))) catalog c.in_ok-query.ensures.sound)
     (has_the_same g.S.Store history old kept new same) c.in_err-answer.ensures.named)
@@ -66,22 +61,19 @@ returns-in_err-answer-clause-queries g c usable history kept =
     let s : Statement = statement.sequenced asked in
     let query = resolved.plain_query c.in_ok-query.query in
     let old : EngineState g.row.S.Denot = c.args.self.now in
-    let new : EngineState g.row.S.Denot = engine_of c.self.inside.store (map rows_by_key c.answer_query.new.tables.items) c.answer_query.new.ended.items in
-    let rows =
-    handed_rows g.S.Store history old kept (map rows_by_key c.self.inside.tables.items) c.self.inside.ended.items
-    (ap (λ (e : EngineState g.row.S.Denot). e.tables) c.self.view_is)
-    (ap (λ (e : EngineState g.row.S.Denot). e.ended) c.self.view_is) in
-    let known = handed_catalog g.S.Store history old kept c.catalog-catalog.result.now (c.catalog-catalog.ensures ∙ ap (λ (e : EngineState g.row.S.Denot). e.catalog) c.self.view_is) in
-    let of = of_catalog c.catalog-catalog.result.now.tables asked query (subst (λ (k : Catalog). ResolvesQuery k.tables s query) (c.catalog.ensures ∙ sym c.catalog-catalog.ensures) c.in_ok-query.ensures.resolved) in
-    failed_query g.S.Store old new s c.in_err-answer.field-0.0 (inl (c.in_err-answer.ensures.why history known rows of)))
+    let new : EngineState g.row.S.Denot = engine_with c.self.inside.store c.answer_query.new.tables in
+    let rows = handed_rows g.S.Store history old kept c.self.inside.store c.self.inside.tables c.self.view_is in
+    let catalog : c.catalog.result.now ≡ old.catalog = c.catalog.ensures ∙ ap (λ (e : EngineState g.row.S.Denot). e.catalog) c.self.view_is in
+    let known = handed_query g.S.Store history old kept asked query (subst (λ (k : Catalog). ResolvesQuery k.tables s query) catalog c.in_ok-query.ensures.resolved) in
+    failed_query g.S.Store old new s c.in_err-answer.field-0.0 (inl (c.in_err-answer.ensures.why history rows known)))
 
 pub returns-clause-over : goal.returns-clause-over
 returns-clause-over g c =
     let s : Statement = statement.sequenced (plain_query c.args.query.now) in
     let old : EngineState g.row.S.Denot = c.args.self.now in
     let catalog : c.catalog.result.now ≡ old.catalog = c.catalog.ensures ∙ ap (λ (e : EngineState g.row.S.Denot). e.catalog) c.self.view_is in
-    let new : EngineState g.row.S.Denot = engine_of c.self.inside.store (map rows_by_key c.answer_query.new.tables.items) c.answer_query.new.ended.items in
-    let same : new ≡ old = ap₂ (λ ts es. engine_of c.self.inside.store (map rows_by_key ts) es) c.answer_query.ensures.tables c.answer_query.ensures.same ∙ c.self.view_is in
+    let new : EngineState g.row.S.Denot = engine_with c.self.inside.store c.answer_query.new.tables in
+    let same : new ≡ old = ap (engine_with c.self.inside.store) c.answer_query.ensures.same ∙ c.self.view_is in
     asked_over g.S.Store old s new (Answered c.in_ok-answer.answer) same
     (subst (λ (k : Catalog). NoneApplies (Holds (query_conditions k.tables s))) catalog c.in_ok-query.ensures.sound) (refl, refl)
 
@@ -99,8 +91,8 @@ returns-in_err-answer-clause-over g c =
     rw (p.1, p.2) (let s : Statement = statement.sequenced (plain_query c.args.query.now) in
     let old : EngineState g.row.S.Denot = c.args.self.now in
     let catalog : c.catalog.result.now ≡ old.catalog = c.catalog.ensures ∙ ap (λ (e : EngineState g.row.S.Denot). e.catalog) c.self.view_is in
-    let new : EngineState g.row.S.Denot = engine_of c.self.inside.store (map rows_by_key c.answer_query.new.tables.items) c.answer_query.new.ended.items in
-    let same : new ≡ old = ap₂ (λ ts es. engine_of c.self.inside.store (map rows_by_key ts) es) c.answer_query.ensures.tables c.answer_query.ensures.same ∙ c.self.view_is in
+    let new : EngineState g.row.S.Denot = engine_with c.self.inside.store c.answer_query.new.tables in
+    let same : new ≡ old = ap (engine_with c.self.inside.store) c.answer_query.ensures.same ∙ c.self.view_is in
     untouched_over g.S.Store old s new c.in_err-answer.field-0.0 same
     (failed_over old.catalog.tables old.clock s c.in_err-answer.field-0.0
     (subst (λ (k : Catalog). NoneApplies (Holds (query_conditions k.tables s))) catalog c.in_ok-query.ensures.sound)

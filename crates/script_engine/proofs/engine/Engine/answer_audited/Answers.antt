@@ -1,4 +1,4 @@
-use Rattle.std.proofs.Common.{◌≡◌, ◌∙◌, List, ap, ap₂, inl, map, refl, subst, sym}
+use Rattle.std.proofs.Common.{◌≡◌, ◌∙◌, List, ap, inl, refl, subst, sym}
 use Rattle.std.specs.Prelude.{IfErr}
 use Rattle.period_core.specs.Leasts.{MayAnswer, NoneApplies}
 use Rattle.sql_statements.specs.Plain.{plain_query}
@@ -9,20 +9,18 @@ use Rattle.catalog_core.specs.query.Queries as resolved
 use Rattle.statement_resolution.specs.query.Resolving.{ResolvesQuery, query_conditions}
 use Rattle.catalog_core.specs.declared.table.TableDef.{TableDef}
 use Rattle.catalog_core.specs.declared.table.catalog.Catalog.{Catalog}
-use Rattle.period_keys.specs.Current.{rows_by_key}
 use Rattle.version_store.specs.StoreState.{SparesOthers}
 use Rattle.version_store.proofs.Beside.{spares_same}
 use Rattle.history_model.specs.Histories.{catalog_of}
 use Rattle.script_engine.specs.engine.Audits.{AuditedStepsTo}
-use Rattle.script_engine.specs.engine.EngineState.{EngineState, engine_of}
+use Rattle.script_engine.specs.engine.EngineState.{EngineState, engine_with}
 use Rattle.script_engine.specs.engine.Over.{StepOver}
 use Rattle.script_engine.specs.engine.Runs.{MayRefuseQuery}
 use Rattle.statement_reports.specs.declared.entry.Entry.{Entry}
 use Rattle.statement_reports.specs.declared.outcome.Outcome.TheVariants.{Answer as Answered}
 use Rattle.script_engine.proofs.Answered.{answered_step, failed_answer, unanswered_step}
 use Rattle.script_engine.proofs.Audited.{answer_entry, refused_entry}
-use Rattle.script_engine.proofs.Fits.{of_catalog}
-use Rattle.script_engine.proofs.Handed.{handed_catalog, handed_rows, has_the_same}
+use Rattle.script_engine.proofs.Handed.{handed_query, handed_rows, has_the_same}
 use Rattle.script_engine.proofs.Refused.{failed_query}
 use Rattle.script_engine.proofs.OverFacts.{asked_over, untouched_over}
 use Rattle.script_engine.proofs.SameInMemory.{failed_over}
@@ -37,21 +35,16 @@ returns-in-Ok-answer_query-clause-step g c usable history kept =
     let answer = c.in-Ok-answer_query.answer in
     let old : EngineState g.row.S.Denot = c.args.self.now in
     let catalog : c.catalog.result.now ≡ old.catalog = c.catalog.ensures ∙ ap (λ (e : EngineState g.row.S.Denot). e.catalog) c.self.view_is in
-    let new : EngineState g.row.S.Denot = engine_of c.self.inside.store (map rows_by_key c.answer_query.new.tables.items) c.answer_query.new.ended.items in
-    let same : new ≡ old = ap₂ (λ ts es. engine_of c.self.inside.store (map rows_by_key ts) es) c.answer_query.ensures.tables c.answer_query.ensures.same ∙ c.self.view_is in
-    let tables : map rows_by_key c.self.inside.tables.items ≡ old.tables = ap (λ (e : EngineState g.row.S.Denot). e.tables) c.self.view_is in
-    let ended : c.self.inside.ended.items ≡ old.ended = ap (λ (e : EngineState g.row.S.Denot). e.ended) c.self.view_is in
-    let rows = handed_rows g.S.Store history old kept (map rows_by_key c.self.inside.tables.items) c.self.inside.ended.items tables ended in
-    let known = handed_catalog g.S.Store history old kept c.catalog-catalog.result.now (c.catalog-catalog.ensures ∙ ap (λ (e : EngineState g.row.S.Denot). e.catalog) c.self.view_is) in
-    let right = c.in-Ok-answer_query.ensures.right history known rows in
+    let new : EngineState g.row.S.Denot = engine_with c.self.inside.store c.answer_query.new.tables in
+    let same : new ≡ old = ap (engine_with c.self.inside.store) c.answer_query.ensures.same ∙ c.self.view_is in
+    let rows = handed_rows g.S.Store history old kept c.self.inside.store c.self.inside.tables c.self.view_is in
     let found : ResolvesQuery old.catalog.tables s query = subst (λ (k : Catalog). ResolvesQuery k.tables s query) catalog c.in-Ok.ensures.resolved in
     let its : ResolvesQuery (catalog_of history) s query = subst (λ (defs : List TableDef). ResolvesQuery defs s query) (tables_of g.S.Store history old kept) found in
-    let audited =
-    handed_rows g.S.Store history old kept (map rows_by_key c.as_slice-tables.result.now) c.as_slice.result.now
-    (ap (map rows_by_key) (c.as_slice-tables.ensures.value ∙ c.answer_query.ensures.tables) ∙ tables)
-    (c.as_slice.ensures.value ∙ c.answer_query.ensures.same ∙ ended) in
+    let known = handed_query g.S.Store history old kept asked query found in
+    let right = c.in-Ok-answer_query.ensures.right history rows known in
+    let audited = handed_rows g.S.Store history old kept c.self.inside.store c.answer_query.new.tables same in
     answer_entry g.S.Store history s new query answer c.audit_of-audit.result its
-    (c.audit_of-audit.ensures.confirms history audited (of_catalog (catalog_of history) asked query its) right)
+    (c.audit_of-audit.ensures.confirms history audited known right)
     (answered_step g.S.Store history old asked kept new query answer
     (subst (λ (k : Catalog). NoneApplies (Holds (query_conditions k.tables s))) catalog c.in-Ok.ensures.sound)
     found (has_the_same g.S.Store history old kept new same) c.in-Ok-answer_query.ensures.columns right)
@@ -62,8 +55,8 @@ returns-clause-step g c usable history kept =
     let s : Statement = statement.sequenced asked in
     let old : EngineState g.row.S.Denot = c.args.self.now in
     let catalog : c.catalog.result.now ≡ old.catalog = c.catalog.ensures ∙ ap (λ (e : EngineState g.row.S.Denot). e.catalog) c.self.view_is in
-    let new : EngineState g.row.S.Denot = engine_of c.self.inside.store (map rows_by_key c.answer_query.new.tables.items) c.answer_query.new.ended.items in
-    let same : new ≡ old = ap₂ (λ ts es. engine_of c.self.inside.store (map rows_by_key ts) es) c.answer_query.ensures.tables c.answer_query.ensures.same ∙ c.self.view_is in
+    let new : EngineState g.row.S.Denot = engine_with c.self.inside.store c.answer_query.new.tables in
+    let same : new ≡ old = ap (engine_with c.self.inside.store) c.answer_query.ensures.same ∙ c.self.view_is in
     subst (λ (entry : Entry). AuditedStepsTo g.S.Store history s entry new) (sym c.unaudited-in-Err-answer_query.ensures)
     (refused_entry g.S.Store history s new c.in-Err-answer_query.refusal
     (failed_answer g.S.Store history old asked kept new c.in-Err-answer_query.refusal
@@ -83,23 +76,20 @@ returns-clause-queries g c usable history kept =
     let s : Statement = statement.sequenced asked in
     let query = resolved.plain_query c.in-Ok.query in
     let old : EngineState g.row.S.Denot = c.args.self.now in
-    let new : EngineState g.row.S.Denot = engine_of c.self.inside.store (map rows_by_key c.answer_query.new.tables.items) c.answer_query.new.ended.items in
-    let rows =
-    handed_rows g.S.Store history old kept (map rows_by_key c.self.inside.tables.items) c.self.inside.ended.items
-    (ap (λ (e : EngineState g.row.S.Denot). e.tables) c.self.view_is)
-    (ap (λ (e : EngineState g.row.S.Denot). e.ended) c.self.view_is) in
-    let known = handed_catalog g.S.Store history old kept c.catalog-catalog.result.now (c.catalog-catalog.ensures ∙ ap (λ (e : EngineState g.row.S.Denot). e.catalog) c.self.view_is) in
-    let of = of_catalog c.catalog-catalog.result.now.tables asked query (subst (λ (k : Catalog). ResolvesQuery k.tables s query) (c.catalog.ensures ∙ sym c.catalog-catalog.ensures) c.in-Ok.ensures.resolved) in
+    let new : EngineState g.row.S.Denot = engine_with c.self.inside.store c.answer_query.new.tables in
+    let rows = handed_rows g.S.Store history old kept c.self.inside.store c.self.inside.tables c.self.view_is in
+    let catalog : c.catalog.result.now ≡ old.catalog = c.catalog.ensures ∙ ap (λ (e : EngineState g.row.S.Denot). e.catalog) c.self.view_is in
+    let known = handed_query g.S.Store history old kept asked query (subst (λ (k : Catalog). ResolvesQuery k.tables s query) catalog c.in-Ok.ensures.resolved) in
     subst (λ (entry : Entry). IfErr entry.result (MayRefuseQuery g.S.Store old new s)) (sym c.unaudited-in-Err-answer_query.ensures)
-    (failed_query g.S.Store old new s c.in-Err-answer_query.refusal (inl (c.in-Err-answer_query.ensures.why history known rows of)))
+    (failed_query g.S.Store old new s c.in-Err-answer_query.refusal (inl (c.in-Err-answer_query.ensures.why history rows known)))
 
 pub returns-in-Ok-answer_query-clause-over : goal.returns-in-Ok-answer_query-clause-over
 returns-in-Ok-answer_query-clause-over g c =
     let s : Statement = statement.sequenced (plain_query c.args.query.now) in
     let old : EngineState g.row.S.Denot = c.args.self.now in
     let catalog : c.catalog.result.now ≡ old.catalog = c.catalog.ensures ∙ ap (λ (e : EngineState g.row.S.Denot). e.catalog) c.self.view_is in
-    let new : EngineState g.row.S.Denot = engine_of c.self.inside.store (map rows_by_key c.answer_query.new.tables.items) c.answer_query.new.ended.items in
-    let same : new ≡ old = ap₂ (λ ts es. engine_of c.self.inside.store (map rows_by_key ts) es) c.answer_query.ensures.tables c.answer_query.ensures.same ∙ c.self.view_is in
+    let new : EngineState g.row.S.Denot = engine_with c.self.inside.store c.answer_query.new.tables in
+    let same : new ≡ old = ap (engine_with c.self.inside.store) c.answer_query.ensures.same ∙ c.self.view_is in
     asked_over g.S.Store old s new (Answered c.in-Ok-answer_query.answer) same
     (subst (λ (k : Catalog). NoneApplies (Holds (query_conditions k.tables s))) catalog c.in-Ok.ensures.sound) (refl, refl)
 
@@ -117,8 +107,8 @@ returns-clause-over g c =
     let s : Statement = statement.sequenced (plain_query c.args.query.now) in
     let old : EngineState g.row.S.Denot = c.args.self.now in
     let catalog : c.catalog.result.now ≡ old.catalog = c.catalog.ensures ∙ ap (λ (e : EngineState g.row.S.Denot). e.catalog) c.self.view_is in
-    let new : EngineState g.row.S.Denot = engine_of c.self.inside.store (map rows_by_key c.answer_query.new.tables.items) c.answer_query.new.ended.items in
-    let same : new ≡ old = ap₂ (λ ts es. engine_of c.self.inside.store (map rows_by_key ts) es) c.answer_query.ensures.tables c.answer_query.ensures.same ∙ c.self.view_is in
+    let new : EngineState g.row.S.Denot = engine_with c.self.inside.store c.answer_query.new.tables in
+    let same : new ≡ old = ap (engine_with c.self.inside.store) c.answer_query.ensures.same ∙ c.self.view_is in
     subst (λ (entry : Entry). StepOver g.S.Store old s entry.result new) (sym c.unaudited-in-Err-answer_query.ensures)
     (untouched_over g.S.Store old s new c.in-Err-answer_query.refusal same
     (failed_over old.catalog.tables old.clock s c.in-Err-answer_query.refusal

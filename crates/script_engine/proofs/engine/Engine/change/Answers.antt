@@ -11,8 +11,9 @@ use Rattle.period_keys.specs.Current.{HoldCurrent, rows_by_key}
 use Rattle.period_keys.specs.Lawful.{IsLawfulChange, IsLawfulState}
 use Rattle.period_keys.specs.Planned.{IsPlanOf}
 use Rattle.period_keys.specs.Rows.{RowsByKey}
+use Rattle.period_keys.specs.TableRows.{TableRows}
 use Rattle.script_engine.specs.engine.Ended.{HaveEnded}
-use Rattle.script_engine.specs.engine.EngineState.{EngineState}
+use Rattle.script_engine.specs.engine.EngineState.{EngineState, engine_with}
 use Rattle.script_engine.specs.engine.Faults.{IsFault}
 use Rattle.script_engine.specs.engine.InMemory.{AreKeysIn, FollowCatalog, rows_in}
 use Rattle.script_engine.specs.engine.Planned.{IsResolved, planned_count, word_of}
@@ -52,8 +53,8 @@ lawful_plan-requires g c =
     let (s, is) = c.requires in
     record {
       follow =
-          subst (λ (k : Catalog). FollowCatalog k.tables c.as_slice.result.now) (sym tables)
-          (subst (FollowCatalog c.self.inside.store.catalog.tables) (sym c.as_slice.ensures.value) c.self.invariant.0);
+          subst (λ (k : Catalog). FollowCatalog k.tables c.current.result.now) (sym tables)
+          (subst (FollowCatalog c.self.inside.store.catalog.tables) (sym c.current.ensures) c.self.invariant.0);
       defined =
           subst (λ (k : Catalog). (d : TableDef) × (table_of k.tables change.table ≡ Some d)) (sym judged)
           (resolved_table old.catalog.tables s change (subst (IsResolved old.catalog.tables s c.args.word) c.in_ok-change.was is).change);
@@ -65,15 +66,13 @@ pub apply-requires-clause-split : goal.apply-requires-clause-split
 apply-requires-clause-split g c =
     let change = c.in_ok-change.change in
     let plan = c.in_ok-made.made.plan in
-    let tables : map rows_by_key c.as_slice.result.now ≡ c.args.self.now.tables = ap (map rows_by_key) c.as_slice.ensures.value ∙ ap (λ (e : EngineState g.row.S.Denot). e.tables) c.self.view_is in
-    ended_there change.action (rows_in c.args.self.now.tables change.table) plan
-    (subst (λ (ts : List RowsByKey). IsPlanOf change.action (rows_in ts change.table) plan) tables c.in_ok-made.ensures.plan)
+    let tables = map rows_by_key c.self.inside.tables.current in
+    ended_there change.action (rows_in tables change.table) plan
+    (subst (λ (ts : List TableRows). IsPlanOf change.action (rows_in (map rows_by_key ts) change.table) plan) c.current.ensures c.in_ok-made.ensures.plan)
 
 pub apply-requires-clause-keys : goal.apply-requires-clause-keys
 apply-requires-clause-keys g c =
-    let change = c.in_ok-change.change in
-    let tables : map rows_by_key c.as_slice.result.now ≡ c.args.self.now.tables = ap (map rows_by_key) c.as_slice.ensures.value ∙ ap (λ (e : EngineState g.row.S.Denot). e.tables) c.self.view_is in
-    subst (λ (ts : List RowsByKey). AreKeysIn ts change.table c.in_ok-made.made.plan.added c.in_ok-made.made.keys.items) tables c.in_ok-made.ensures.keys
+    subst (λ (ts : List TableRows). AreKeysIn (map rows_by_key ts) c.in_ok-change.change.table c.in_ok-made.made.plan.added c.in_ok-made.made.keys.items) c.current.ensures c.in_ok-made.ensures.keys
 
 pub returns-in_err-made-clause-step : goal.returns-in_err-made-clause-step
 returns-in_err-made-clause-step g c usable history kept s is =
@@ -83,7 +82,7 @@ returns-in_err-made-clause-step g c usable history kept s is =
     let old : EngineState g.row.S.Denot = c.args.self.now in
     let known : IsResolved old.catalog.tables s c.args.word (Ok change) = subst (IsResolved old.catalog.tables s c.args.word) c.in_ok-change.was is in
     let judged : c.catalog-catalog.result.now ≡ old.catalog = c.catalog-catalog.ensures ∙ ap (λ (e : EngineState g.row.S.Denot). e.catalog) c.self.view_is in
-    let tables : map rows_by_key c.as_slice.result.now ≡ old.tables = ap (map rows_by_key) c.as_slice.ensures.value ∙ ap (λ (e : EngineState g.row.S.Denot). e.tables) c.self.view_is in
+    let tables : map rows_by_key c.current.result.now ≡ old.tables = ap (map rows_by_key) c.current.ensures ∙ ap (λ (e : EngineState g.row.S.Denot). e.tables) c.self.view_is in
     elim c.in_err-made.ensures.refused [
       | inl none ↦ unplanned_step g.S.Store history old s known.form kept change known.sound known.empty refusal (inl none)
       | inr other ↦ elim other [
@@ -98,14 +97,14 @@ returns-in_err-made-clause-step g c usable history kept s is =
     ])
 
 pub returns-clause-step : goal.returns-clause-step
-returns-clause-step g c usable history kept s is =
+returns-clause-step g c = rw (← c.self.view_is) (λ usable history kept s is.
     let change = c.in_ok-change.change in
     let plan = c.in_ok-made.made.plan in
-    let old : EngineState g.row.S.Denot = c.args.self.now in
-    let new : EngineState g.row.S.Denot = c.apply.new.self in
+    let old : EngineState g.row.S.Denot = engine_with c.self.inside.store c.self.inside.tables in
+    let new : EngineState g.row.S.Denot = engine_with c.apply.new.store c.apply.new.self in
     let known : IsResolved old.catalog.tables s c.args.word (Ok change) = subst (IsResolved old.catalog.tables s c.args.word) c.in_ok-change.was is in
-    let judged : c.catalog-catalog.result.now ≡ old.catalog = c.catalog-catalog.ensures ∙ ap (λ (e : EngineState g.row.S.Denot). e.catalog) c.self.view_is in
-    let tables : map rows_by_key c.as_slice.result.now ≡ old.tables = ap (map rows_by_key) c.as_slice.ensures.value ∙ ap (λ (e : EngineState g.row.S.Denot). e.tables) c.self.view_is in
+    let judged : c.catalog-catalog.result.now ≡ old.catalog = c.catalog-catalog.ensures in
+    let tables : map rows_by_key c.current.result.now ≡ old.tables = ap (map rows_by_key) c.current.ensures in
     let of : IsPlanOf change.action (rows_in old.tables change.table) plan =
     subst (λ (ts : List RowsByKey). IsPlanOf change.action (rows_in ts change.table) plan) tables c.in_ok-made.ensures.plan in
     let told : Done c.args.word (planned_count change.action plan) ≡ Done (word_of change.action) (planned_count change.action plan) = ap (λ (w : Word). Done w (planned_count change.action plan)) known.told in
@@ -117,17 +116,18 @@ returns-clause-step g c usable history kept s is =
     (subst₂ (λ (k : Catalog) (ts : List RowsByKey). HoldCurrent k.tables (last_state history) ts) (sym judged) (sym tables) (hold_before g.S.Store history old s known.form kept))))
     (c.in_ok-apply.ensures.distinct usable kept.contents kept.stored)
     (c.in_ok-apply.ensures.changes usable kept.contents kept.stored).0
-    c.in_ok-apply.ensures.made c.in_ok-apply.ensures.appended)
+    c.in_ok-apply.ensures.made c.in_ok-apply.ensures.appended))
 
 pub returns-in_err-apply-clause-step : goal.returns-in_err-apply-clause-step
-returns-in_err-apply-clause-step g c usable history kept s is =
+returns-in_err-apply-clause-step g c =
     let p = err_from_is_err_and c.from_residual-in_err-apply.result c.from_residual-in_err-apply.ensures.1 in
-    rw (p.1, p.2) (let change = c.in_ok-change.change in
+    rw (p.1, p.2, ← c.self.view_is) (λ usable history kept s is.
+    let change = c.in_ok-change.change in
     let plan = c.in_ok-made.made.plan in
-    let old : EngineState g.row.S.Denot = c.args.self.now in
-    let new : EngineState g.row.S.Denot = c.apply.new.self in
+    let old : EngineState g.row.S.Denot = engine_with c.self.inside.store c.self.inside.tables in
+    let new : EngineState g.row.S.Denot = engine_with c.apply.new.store c.apply.new.self in
     let known : IsResolved old.catalog.tables s c.args.word (Ok change) = subst (IsResolved old.catalog.tables s c.args.word) c.in_ok-change.was is in
-    let tables : map rows_by_key c.as_slice.result.now ≡ old.tables = ap (map rows_by_key) c.as_slice.ensures.value ∙ ap (λ (e : EngineState g.row.S.Denot). e.tables) c.self.view_is in
+    let tables : map rows_by_key c.current.result.now ≡ old.tables = ap (map rows_by_key) c.current.ensures in
     let of : IsPlanOf change.action (rows_in old.tables change.table) plan =
     subst (λ (ts : List RowsByKey). IsPlanOf change.action (rows_in ts change.table) plan) tables c.in_ok-made.ensures.plan in
     unchanged_step g.S.Store history old s known.form kept change known.sound known.empty plan of new c.in_err-apply.field-0.0
@@ -141,9 +141,9 @@ returns-in_err-apply-clause-step g c usable history kept s is =
 pub returns-in_err-apply-clause-kept : goal.returns-in_err-apply-clause-kept
 returns-in_err-apply-clause-kept g c =
     let p = err_from_is_err_and c.from_residual-in_err-apply.result c.from_residual-in_err-apply.ensures.1 in
-    λ usable contents has. rw p.1 (record {
+    rw (p.1, ← c.self.view_is) (λ usable contents has. record {
       stored = (c.in_err-apply.ensures.changes usable contents has.stored).1;
-      current = current-kept contents c.in_ok-change.change.table c.args.self.now.tables c.apply.new.self.tables c.in_err-apply.ensures.none has.current;
+      current = current-kept contents c.in_ok-change.change.table (map rows_by_key c.self.inside.tables.current) (map rows_by_key c.apply.new.self.current) c.in_err-apply.ensures.none has.current;
       ended = subst (HaveEnded contents) (sym c.in_err-apply.ensures.unchanged) has.ended;
     })
 
@@ -176,11 +176,11 @@ returns-in_err-made-clause-over g c =
 pub returns-in_err-apply-clause-over : goal.returns-in_err-apply-clause-over
 returns-in_err-apply-clause-over g c =
     let p = err_from_is_err_and c.from_residual-in_err-apply.result c.from_residual-in_err-apply.ensures.1 in
-    rw (p.1, p.2) (λ s is.
+    rw (p.1, p.2, ← c.self.view_is) (λ s is.
     let change = c.in_ok-change.change in
     let plan = c.in_ok-made.made.plan in
-    let old : EngineState g.row.S.Denot = c.args.self.now in
-    let new : EngineState g.row.S.Denot = c.apply.new.self in
+    let old : EngineState g.row.S.Denot = engine_with c.self.inside.store c.self.inside.tables in
+    let new : EngineState g.row.S.Denot = engine_with c.apply.new.store c.apply.new.self in
     let known : IsResolved old.catalog.tables s c.args.word (Ok change) = subst (IsResolved old.catalog.tables s c.args.word) c.in_ok-change.was is in
     let of = c.in_ok-made.ensures.plan in
     refused_over g.S.Store old s new c.in_err-apply.field-0.0
@@ -189,25 +189,26 @@ returns-in_err-apply-clause-over g c =
     c.in_err-apply.ensures.none_stored c.apply.ensures.usable)
 
 pub returns-clause-over : goal.returns-clause-over
-returns-clause-over g c = λ s is.
+returns-clause-over g c = rw (← c.self.view_is) (λ s is.
     let change = c.in_ok-change.change in
     let plan = c.in_ok-made.made.plan in
-    let old : EngineState g.row.S.Denot = c.args.self.now in
-    let new : EngineState g.row.S.Denot = c.apply.new.self in
+    let old : EngineState g.row.S.Denot = engine_with c.self.inside.store c.self.inside.tables in
+    let new : EngineState g.row.S.Denot = engine_with c.apply.new.store c.apply.new.self in
     let known : IsResolved old.catalog.tables s c.args.word (Ok change) = subst (IsResolved old.catalog.tables s c.args.word) c.in_ok-change.was is in
     let of = c.in_ok-made.ensures.plan in
     accepted_over g.S.Store old s new c.done.result (planned_sound old.catalog.tables old.clock s known.form change.action known.sound known.empty of.listed plan of.plans)
     (change_follows old new s known.form (ap (λ (k : Catalog). k.tables) c.apply.ensures.catalog, c.apply.ensures.clock))
-    c.apply.ensures.usable
+    c.apply.ensures.usable)
 
 -- ---- 62 is due to a fault
 
 pub apply-requires-clause-there : goal.apply-requires-clause-there
 apply-requires-clause-there g c =
-    let old : EngineState g.row.S.Denot = c.args.self.now in
     let change = c.in_ok-change.change in
     let (s, is) = c.requires in
-    resolved_table old.catalog.tables s change (subst (IsResolved old.catalog.tables s c.args.word) c.in_ok-change.was is).change
+    let known : IsResolved c.args.self.now.catalog.tables s c.args.word (Ok change) = subst (IsResolved c.args.self.now.catalog.tables s c.args.word) c.in_ok-change.was is in
+    resolved_table c.self.inside.store.catalog.tables s change
+    (subst (λ (e : EngineState g.row.S.Denot). IsResolved e.catalog.tables s c.args.word (Ok change)) (sym c.self.view_is) known).change
 
 pub returns-in_err-change-clause-why : goal.returns-in_err-change-clause-why
 returns-in_err-change-clause-why g c =
@@ -233,16 +234,16 @@ returns-in_err-made-clause-why g c =
 pub returns-in_err-apply-clause-why : goal.returns-in_err-apply-clause-why
 returns-in_err-apply-clause-why g c =
     let p = err_from_is_err_and c.from_residual-in_err-apply.result c.from_residual-in_err-apply.ensures.1 in
-    rw (p.1, p.2) (λ s is usable history kept room told.
+    rw (p.1, p.2, ← c.self.view_is) (λ s is usable history kept room told.
     let change = c.in_ok-change.change in
     let plan = c.in_ok-made.made.plan in
     let refusal = c.in_err-apply.field-0.0 in
-    let old : EngineState g.row.S.Denot = c.args.self.now in
-    let new : EngineState g.row.S.Denot = c.apply.new.self in
+    let old : EngineState g.row.S.Denot = engine_with c.self.inside.store c.self.inside.tables in
+    let new : EngineState g.row.S.Denot = engine_with c.apply.new.store c.apply.new.self in
     let db : Database = (state g.S.Store old.connection).now in
     let known : IsResolved old.catalog.tables s c.args.word (Ok change) = subst (IsResolved old.catalog.tables s c.args.word) c.in_ok-change.was is in
-    let judged : c.catalog-catalog.result.now ≡ old.catalog = c.catalog-catalog.ensures ∙ ap (λ (e : EngineState g.row.S.Denot). e.catalog) c.self.view_is in
-    let tables : map rows_by_key c.as_slice.result.now ≡ old.tables = ap (map rows_by_key) c.as_slice.ensures.value ∙ ap (λ (e : EngineState g.row.S.Denot). e.tables) c.self.view_is in
+    let judged : c.catalog-catalog.result.now ≡ old.catalog = c.catalog-catalog.ensures in
+    let tables : map rows_by_key c.current.result.now ≡ old.tables = ap (map rows_by_key) c.current.ensures in
     let of : IsPlanOf change.action (rows_in old.tables change.table) plan =
     subst (λ (ts : List RowsByKey). IsPlanOf change.action (rows_in ts change.table) plan) tables c.in_ok-made.ensures.plan in
     let allowed : IsLawfulChange old.catalog.tables (last_state history) change =

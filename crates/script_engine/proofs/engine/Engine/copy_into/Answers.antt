@@ -1,8 +1,7 @@
-use Rattle.std.proofs.Common.{◌≡◌, inr, map, subst, sym, Some}
+use Rattle.std.proofs.Common.{◌≡◌, inr, subst, sym, Some}
 use Rattle.sqlite_trees.proofs.ListLemmas.{all_weaker}
 use Rattle.catalog_core.specs.declared.table.TableDef.{TableDef}
 use Rattle.catalog_core.specs.table.TableWords.{table_of}
-use Rattle.period_keys.specs.Current.{rows_by_key}
 use Rattle.version_tables.specs.declared.form.Form.TheVariants.{Microseconds}
 use Rattle.version_store.specs.Contents.{Contents, TableVersion}
 use Rattle.version_store.specs.GoodStore.{HaveTables, IsGoodVersion}
@@ -10,13 +9,13 @@ use Rattle.version_store.specs.StoreState.{IsUsable, SparesOthers}
 use Rattle.version_store.proofs.Beside.{spares_same}
 use Rattle.version_store.proofs.AfterCalls.{on_ok}
 use Rattle.version_store.proofs.Units.{same_units}
-use Rattle.script_engine.specs.engine.EngineState.{engine_of}
+use Rattle.script_engine.specs.engine.EngineState.{engine_with}
 use Rattle.script_engine.specs.engine.Stored.{AreOfHistory, EngineRepresents}
 use Rattle.script_engine.proofs.engine.Engine.copy_into.Goals as goal
 
 pub returns-clause-copied : goal.returns-clause-copied
 returns-clause-copied g c usable copy_usable history kept =
-    let was : EngineRepresents g.S.Store history (engine_of c.self.inside.store (map rows_by_key c.self.inside.tables.items) c.self.inside.ended.items) = subst (λ s. EngineRepresents g.S.Store history s) (sym c.self.view_is) kept in
+    let was : EngineRepresents g.S.Store history (engine_with c.self.inside.store c.self.inside.tables) = subst (λ s. EngineRepresents g.S.Store history s) (sym c.self.view_is) kept in
     let m = was.contents in
     let tabled : HaveTables m = all_weaker (IsGoodVersion m.tables m.clock) (λ (v : TableVersion). (d : TableDef) × (table_of m.tables v.table ≡ Some d)) (λ v good. (good.definition, good.table)) m.versions was.said.good.versions in
     on_ok c.copy_into.result
@@ -25,7 +24,7 @@ returns-clause-copied g c usable copy_usable history kept =
 
 pub returns-clause-same : goal.returns-clause-same
 returns-clause-same g c usable history kept =
-    let was : EngineRepresents g.S.Store history (engine_of c.self.inside.store (map rows_by_key c.self.inside.tables.items) c.self.inside.ended.items) = subst (λ s. EngineRepresents g.S.Store history s) (sym c.self.view_is) kept in
+    let was : EngineRepresents g.S.Store history (engine_with c.self.inside.store c.self.inside.tables) = subst (λ s. EngineRepresents g.S.Store history s) (sym c.self.view_is) kept in
     record { contents = was.contents; stored = c.copy_into.ensures.same usable was.contents was.stored; said = was.said; current = was.current; ended = was.ended }
 
 pub returns-clause-usable : goal.returns-clause-usable

@@ -1,4 +1,4 @@
-use Rattle.std.proofs.Common.{◌≡◌, ◌<◌, ◌++◌, ◌∷◌, ◌∙◌, ℤ, List, [], ap, arith, length, length-append, map, refl, subst, sym}
+use Rattle.std.proofs.Common.{◌≡◌, ◌<◌, ◌++◌, ◌∷◌, ◌∙◌, ℤ, List, [], ap, length, map, refl, subst, sym}
 use Rattle.std.proofs.lemmas.Result.{err_from_is_err_and}
 use Rattle.period_core.specs.Leasts.{MayAnswer, NoneApplies}
 use Rattle.catalog_core.specs.create.Creation.{create_conditions}
@@ -13,7 +13,7 @@ use Rattle.period_keys.specs.Lawful.{key_positions}
 use Rattle.period_keys.specs.Rows.{RowsByKey}
 use Rattle.version_store.specs.Changed.{with_table}
 use Rattle.script_engine.specs.engine.Ended.{AllEndedBy, HaveEnded}
-use Rattle.script_engine.specs.engine.EngineState.{EngineState, engine_of}
+use Rattle.script_engine.specs.engine.EngineState.{EngineState, engine_with}
 use Rattle.script_engine.specs.engine.InMemory.{FollowCatalog, HaveCurrentRows}
 use Rattle.script_engine.specs.engine.Stored.{EngineRepresents, HasContents}
 use Rattle.script_engine.proofs.EndedAfter.{ended-created, none_ended}
@@ -28,7 +28,6 @@ use Rattle.statement_reports.specs.declared.outcome.Word.TheVariants as word
 use Rattle.script_engine.specs.engine.Over.{StepOver}
 use Rattle.script_engine.proofs.OverFacts.{accepted_over, refused_over, untouched_over}
 use Rattle.script_engine.proofs.SameInMemory.{failed_over, list_memory}
-use Rattle.ended_versions.specs.Packed.{PackedVersion}
 use Rattle.history_model.specs.Histories.{catalog_of}
 use Rattle.period_core.specs.declared.refusal.Refusal.TheVariants.{Store}
 use Rattle.sqlite.specs.Held.{state}
@@ -50,9 +49,9 @@ returns-in_err-definition-clause-step g c usable history kept =
     unmade_step g.S.Store history c.args.self.now c.args.create.now c.in_err-definition.field-0.0 kept
     (subst (λ (tables : List TableDef). MayAnswer (Holds (create_conditions tables c.args.create.now)) c.in_err-definition.field-0.0) same c.in_err-definition.ensures.refused))
 
-pub add_versions-requires : goal.add_versions-requires
-add_versions-requires g c = record {
-  follow = subst (λ (k : Catalog). FollowCatalog k.tables c.self.inside.tables.items) (sym c.catalog-catalog.ensures) c.self.invariant.0;
+pub add-requires : goal.add-requires
+add-requires g c = record {
+  follow = subst (λ (k : Catalog). FollowCatalog k.tables c.self.inside.tables.current) (sym c.catalog-catalog.ensures) c.self.invariant.0;
   lawful =
       subst (λ (k : Catalog). IsLawful k.tables c.in_ok-definition.definition) (c.catalog.ensures ∙ sym c.catalog-catalog.ensures)
       (c.args.create.now, c.in_ok-definition.ensures.sound, c.in_ok-definition.ensures.defined);
@@ -64,9 +63,9 @@ add_table-requires-clause-room g c =
 
 pub returns-in-Ok-clause-step : goal.returns-in-Ok-clause-step
 returns-in-Ok-clause-step g c usable history kept =
-    let ts : List RowsByKey = map rows_by_key c.self.inside.tables.items in
-    let old : EngineState g.row.S.Denot = engine_of c.self.inside.store ts c.self.inside.ended.items in
-    let new : EngineState g.row.S.Denot = engine_of c.add_table.new.self (map rows_by_key c.add_versions.new.tables.items) c.add_versions.new.ended.items in
+    let ts : List RowsByKey = map rows_by_key c.self.inside.tables.current in
+    let old : EngineState g.row.S.Denot = engine_with c.self.inside.store c.self.inside.tables in
+    let new : EngineState g.row.S.Denot = engine_with c.add_table.new.self c.add.new.self in
     let create = c.args.create.now in
     let definition = c.in_ok-definition.definition in
     let was : EngineRepresents g.S.Store history old = subst (λ s. EngineRepresents g.S.Store history s) (sym c.self.view_is) kept in
@@ -76,37 +75,37 @@ returns-in-Ok-clause-step g c usable history kept =
     (record {
       stored = (c.in-Ok.ensures.changes usable was.contents was.stored).0;
       current =
-          subst (HaveCurrentRows (with_table definition was.contents)) (sym c.in_ok-add_versions.ensures.rows)
+          subst (HaveCurrentRows (with_table definition was.contents)) (sym c.in_ok-add.ensures.rows)
           (current-created was.contents ts definition (without_rows definition) was.current refl refl);
       ended =
-          subst (HaveEnded (with_table definition was.contents)) (sym c.in_ok-add_versions.ensures.appended)
-          (ended-created was.contents c.self.inside.ended.items definition was.ended);
+          subst (HaveEnded (with_table definition was.contents)) (sym c.in_ok-add.ensures.appended)
+          (ended-created was.contents c.self.inside.tables.ended definition was.ended);
     })
 
 pub returns-in-Err-clause-step : goal.returns-in-Err-clause-step
 returns-in-Err-clause-step g c usable history kept =
-    let ts : List RowsByKey = map rows_by_key c.self.inside.tables.items in
-    let old : EngineState g.row.S.Denot = engine_of c.self.inside.store ts c.self.inside.ended.items in
-    let new : EngineState g.row.S.Denot = engine_of c.add_table.new.self (map rows_by_key c.remove_versions.new.tables.items) c.remove_versions.new.ended.items in
+    let ts : List RowsByKey = map rows_by_key c.self.inside.tables.current in
+    let old : EngineState g.row.S.Denot = engine_with c.self.inside.store c.self.inside.tables in
+    let new : EngineState g.row.S.Denot = engine_with c.add_table.new.self c.remove_last.new.self in
     let create = c.args.create.now in
     let was : EngineRepresents g.S.Store history old = subst (λ s. EngineRepresents g.S.Store history s) (sym c.self.view_is) kept in
     uncreated_step g.S.Store history old new create c.in-Err.refusal was
     (subst (λ (k : Catalog). NoneApplies (Holds (create_conditions k.tables create))) c.catalog.ensures c.in_ok-definition.ensures.sound)
     (record {
       stored = (c.in-Err.ensures.changes usable was.contents was.stored).1;
-      current = subst (HaveCurrentRows was.contents) (sym (c.remove_versions.ensures.rows ts (without_rows c.in_ok-definition.definition) c.in_ok-add_versions.ensures.rows)) was.current;
-      ended = subst (HaveEnded was.contents) (sym (c.remove_versions.ensures.ended c.self.inside.ended.items [] c.in_ok-add_versions.ensures.appended)) was.ended;
+      current = subst (HaveCurrentRows was.contents) (sym (c.remove_last.ensures.rows ts (without_rows c.in_ok-definition.definition) c.in_ok-add.ensures.rows)) was.current;
+      ended = subst (HaveEnded was.contents) (sym (c.remove_last.ensures.ended c.self.inside.tables.ended [] c.in_ok-add.ensures.appended)) was.ended;
     })
     c.in-Err.ensures.named
 
 pub returns-in-Err-clause-kept : goal.returns-in-Err-clause-kept
 returns-in-Err-clause-kept g c = λ usable contents has.
-    let ts : List RowsByKey = map rows_by_key c.self.inside.tables.items in
-    let was : HasContents g.S.Store (engine_of c.self.inside.store ts c.self.inside.ended.items) contents = subst (λ s. HasContents g.S.Store s contents) (sym c.self.view_is) has in
+    let ts : List RowsByKey = map rows_by_key c.self.inside.tables.current in
+    let was : HasContents g.S.Store (engine_with c.self.inside.store c.self.inside.tables) contents = subst (λ s. HasContents g.S.Store s contents) (sym c.self.view_is) has in
     record {
       stored = (c.in-Err.ensures.changes usable contents was.stored).1;
-      current = subst (HaveCurrentRows contents) (sym (c.remove_versions.ensures.rows ts (without_rows c.in_ok-definition.definition) c.in_ok-add_versions.ensures.rows)) was.current;
-      ended = subst (HaveEnded contents) (sym (c.remove_versions.ensures.ended c.self.inside.ended.items [] c.in_ok-add_versions.ensures.appended)) was.ended;
+      current = subst (HaveCurrentRows contents) (sym (c.remove_last.ensures.rows ts (without_rows c.in_ok-definition.definition) c.in_ok-add.ensures.rows)) was.current;
+      ended = subst (HaveEnded contents) (sym (c.remove_last.ensures.ended c.self.inside.tables.ended [] c.in_ok-add.ensures.appended)) was.ended;
     }
 
 pub invariant_of-self-in-Ok : goal.invariant_of-self-in-Ok
@@ -114,25 +113,18 @@ invariant_of-self-in-Ok g c =
     let definition : TableDef = c.in_ok-definition.definition in
     let known : c.catalog-catalog.result.now.tables ++ definition ∷ [] ≡ c.add_table.new.self.catalog.tables =
     ap (λ (k : Catalog). k.tables ++ definition ∷ []) c.catalog-catalog.ensures ∙ sym c.in-Ok.ensures.added in (
-      subst (λ (tables : List TableDef). FollowCatalog tables c.add_versions.new.tables.items) known c.in_ok-add_versions.ensures.follow,
-      subst (λ (m : ℤ). AllEndedBy m c.add_versions.new.ended.items) (sym c.in-Ok.ensures.clock)
-          (subst (AllEndedBy c.self.inside.store.clock) (sym c.in_ok-add_versions.ensures.appended) (none_ended c.self.inside.store.clock c.self.inside.ended.items c.self.invariant.1)),
-      (let lists : List (List PackedVersion) = c.self.inside.ended.items in
-          let tables : List TableDef = c.self.inside.store.catalog.tables in
-          let closed : length c.add_versions.new.ended.items ≡ length (lists ++ [] ∷ []) = ap length c.in_ok-add_versions.ensures.appended in
-          let added : length c.add_table.new.self.catalog.tables ≡ length (tables ++ definition ∷ []) = ap length c.in-Ok.ensures.added in
-          let same : length lists ≡ length tables = c.self.invariant.2 in
-          omega (arith, closed, added, same, length-append lists ([] ∷ []), length-append tables (definition ∷ []))),
+      subst (λ (tables : List TableDef). FollowCatalog tables c.add.new.self.current) known c.in_ok-add.ensures.follow,
+      subst (λ (m : ℤ). AllEndedBy m c.add.new.self.ended) (sym c.in-Ok.ensures.clock)
+          (subst (AllEndedBy c.self.inside.store.clock) (sym c.in_ok-add.ensures.appended) (none_ended c.self.inside.store.clock c.self.inside.tables.ended c.self.invariant.1)),
     )
 
 pub invariant_of-self-in-Err : goal.invariant_of-self-in-Err
 invariant_of-self-in-Err g c =
     let same : c.catalog-catalog.result.now.tables ≡ c.add_table.new.self.catalog.tables = ap (λ (k : Catalog). k.tables) c.catalog-catalog.ensures ∙ sym c.in-Err.ensures.none in (
-      subst (λ (tables : List TableDef). FollowCatalog tables c.remove_versions.new.tables.items) same
-          (c.remove_versions.ensures.follow c.catalog-catalog.result.now.tables c.in_ok-definition.definition c.in_ok-add_versions.ensures.follow),
-      subst (λ (m : ℤ). AllEndedBy m c.remove_versions.new.ended.items) (sym c.in-Err.ensures.clock)
-          (subst (AllEndedBy c.self.inside.store.clock) (sym (c.remove_versions.ensures.ended c.self.inside.ended.items [] c.in_ok-add_versions.ensures.appended)) c.self.invariant.1),
-      ap length (c.remove_versions.ensures.ended c.self.inside.ended.items [] c.in_ok-add_versions.ensures.appended) ∙ c.self.invariant.2 ∙ ap length (sym c.in-Err.ensures.none),
+      subst (λ (tables : List TableDef). FollowCatalog tables c.remove_last.new.self.current) same
+          (c.remove_last.ensures.follow c.catalog-catalog.result.now.tables c.in_ok-definition.definition c.in_ok-add.ensures.follow),
+      subst (λ (m : ℤ). AllEndedBy m c.remove_last.new.self.ended) (sym c.in-Err.ensures.clock)
+          (subst (AllEndedBy c.self.inside.store.clock) (sym (c.remove_last.ensures.ended c.self.inside.tables.ended [] c.in_ok-add.ensures.appended)) c.self.invariant.1),
     )
 
 pub returns-in_err-definition-clause-over : goal.returns-in_err-definition-clause-over
@@ -144,9 +136,9 @@ returns-in_err-definition-clause-over g c =
 
 pub returns-in-Ok-clause-over : goal.returns-in-Ok-clause-over
 returns-in-Ok-clause-over g c =
-    let ts : List RowsByKey = map rows_by_key c.self.inside.tables.items in
-    let old : EngineState g.row.S.Denot = engine_of c.self.inside.store ts c.self.inside.ended.items in
-    let new : EngineState g.row.S.Denot = engine_of c.add_table.new.self (map rows_by_key c.add_versions.new.tables.items) c.add_versions.new.ended.items in
+    let ts : List RowsByKey = map rows_by_key c.self.inside.tables.current in
+    let old : EngineState g.row.S.Denot = engine_with c.self.inside.store c.self.inside.tables in
+    let new : EngineState g.row.S.Denot = engine_with c.add_table.new.self c.add.new.self in
     let create = c.args.create.now in
     let definition = c.in_ok-definition.definition in
     subst (λ (e : EngineState g.row.S.Denot). StepOver g.S.Store e (statement.create create) (Ok (Done word.Create 0)) new) c.self.view_is
@@ -157,9 +149,9 @@ returns-in-Ok-clause-over g c =
 
 pub returns-in-Err-clause-over : goal.returns-in-Err-clause-over
 returns-in-Err-clause-over g c =
-    let ts : List RowsByKey = map rows_by_key c.self.inside.tables.items in
-    let old : EngineState g.row.S.Denot = engine_of c.self.inside.store ts c.self.inside.ended.items in
-    let new : EngineState g.row.S.Denot = engine_of c.add_table.new.self (map rows_by_key c.remove_versions.new.tables.items) c.remove_versions.new.ended.items in
+    let ts : List RowsByKey = map rows_by_key c.self.inside.tables.current in
+    let old : EngineState g.row.S.Denot = engine_with c.self.inside.store c.self.inside.tables in
+    let new : EngineState g.row.S.Denot = engine_with c.add_table.new.self c.remove_last.new.self in
     let s : Statement = statement.create c.args.create.now in
     subst (λ (e : EngineState g.row.S.Denot). StepOver g.S.Store e s (Err c.in-Err.refusal) new) c.self.view_is
     (refused_over g.S.Store old s new c.in-Err.refusal
@@ -167,8 +159,8 @@ returns-in-Err-clause-over g c =
     (subst (λ (k : Catalog). NoneApplies (Holds (create_conditions k.tables c.args.create.now))) c.catalog.ensures c.in_ok-definition.ensures.sound)
     c.in-Err.ensures.named)
     (list_memory old new c.in-Err.ensures.none c.in-Err.ensures.clock
-    (c.remove_versions.ensures.rows ts (without_rows c.in_ok-definition.definition) c.in_ok-add_versions.ensures.rows)
-    (c.remove_versions.ensures.ended c.self.inside.ended.items [] c.in_ok-add_versions.ensures.appended))
+    (c.remove_last.ensures.rows ts (without_rows c.in_ok-definition.definition) c.in_ok-add.ensures.rows)
+    (c.remove_last.ensures.ended c.self.inside.tables.ended [] c.in_ok-add.ensures.appended))
     c.in-Err.ensures.none_stored
     c.add_table.ensures.usable)
 
@@ -182,7 +174,7 @@ returns-in_err-definition-clause-why g c =
 
 pub returns-in-Err-clause-why : goal.returns-in-Err-clause-why
 returns-in-Err-clause-why g c = λ usable history kept room.
-    let old : EngineState g.row.S.Denot = engine_of c.self.inside.store (map rows_by_key c.self.inside.tables.items) c.self.inside.ended.items in
+    let old : EngineState g.row.S.Denot = engine_with c.self.inside.store c.self.inside.tables in
     let create = c.args.create.now in
     let definition : TableDef = c.in_ok-definition.definition in
     let was : EngineRepresents g.S.Store history old = subst (λ s. EngineRepresents g.S.Store history s) (sym c.self.view_is) kept in

@@ -1,11 +1,9 @@
-use Rattle.std.proofs.Common.{◌≡◌, ◌∙◌, [], List, ap, inl, inr, map, refl, subst, sym}
+use Rattle.std.proofs.Common.{◌≡◌, ◌∙◌, [], List, ap, inl, inr, refl, subst, sym}
 use Rattle.sqlite.specs.Effect.{Database}
 use Rattle.sqlite.specs.Held.{Held, state}
 use Rattle.sqlite.specs.Schema.{Schema}
 use Rattle.sqlite.specs.Store.{Ghosts}
 use Rattle.history_model.specs.Histories.{History}
-use Rattle.period_keys.specs.Current.{rows_by_key}
-use Rattle.period_keys.specs.TableRows.{TableRows}
 use Rattle.period_core.specs.declared.version.VersionRow.{VersionRow}
 use Rattle.catalog_core.specs.declared.table.catalog.Catalog.{Catalog}
 use Rattle.version_tables.proofs.ColumnFacts.{never}
@@ -25,21 +23,16 @@ use Rattle.version_store.proofs.Opens.{has_contents, same_contents}
 use Rattle.version_store.proofs.ReadRows.{none_of_nothing}
 use Rattle.version_store.proofs.AfterCalls.{fault_since}
 use Rattle.version_store.proofs.Units.{short_in}
-use Rattle.script_engine.specs.engine.EngineState.{EngineState, engine_of}
+use Rattle.script_engine.specs.engine.EngineState.{EngineState, engine_with}
 use Rattle.script_engine.specs.engine.InMemory.{AreReadOf}
 use Rattle.script_engine.specs.engine.Stored.{EngineRepresents}
 use Rattle.script_engine.proofs.NewStore.{new_store}
-use Rattle.ended_versions.specs.Packed.{PackedVersion}
 use Rattle.script_engine.proofs.Openings.{all_points, good_and_lawful, good_history, good_tables, its_contents, other_points}
 use Rattle.script_engine.proofs.engine.Engine.open.Goals as goal
 
 -- the catalog and the lists read of an opened store are those of the contents that it represents
 read_of : {S : Type 0} (g : Ghosts S) (opened : OpenedState S) (catalog : Catalog) (lists : List (List VersionRow)) (d : Contents) → catalog ≡ opened.store.catalog → OpenedRepresents g opened d → AreVersionsOf d lists → HaveTables d → AreReadOf d catalog.tables lists
 read_of g opened catalog lists d is stored versions tabled = record { same = ap (λ (k : Catalog). k.tables) is ∙ stored.catalog; versions = versions; tabled = tabled }
-
--- the state of the engine over an opened store
-abbrev opened_engine : {S : Type 0} → StoreState S → List TableRows → List (List PackedVersion) → EngineState S
-opened_engine store tables ended = engine_of store (map rows_by_key tables) ended
 
 -- there are two forms
 seconds_else : (form : Form) → (form ≡ Microseconds → ⊥) → form ≡ Seconds
@@ -48,7 +41,7 @@ seconds_else Microseconds none = absurd (none refl)
 
 pub returns-in-Ok-accept-clause-opened : goal.returns-in-Ok-accept-clause-opened
 returns-in-Ok-accept-clause-opened g c =
-    let new : EngineState g.row.S.Denot = opened_engine c.in-Ok-accept.store c.in-Ok-load_lawful.loaded.0.items c.in-Ok-load_lawful.loaded.1.items in
+    let new : EngineState g.row.S.Denot = engine_with c.in-Ok-accept.store c.in-Ok-load_lawful.loaded in
     let opened = c.in-Ok.found.0 in
     let accepted = c.in-Ok-accept.ensures in
     let read = read_of g.S.Store opened c.catalog.result.now c.in-Ok.found.1.items in

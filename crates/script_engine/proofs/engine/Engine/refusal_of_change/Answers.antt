@@ -49,7 +49,7 @@ returns-in-Ok-lawful_plan-clause-step g c history kept s verb is =
     let known : IsResolved old.catalog.tables s verb (Ok change) = subst (IsResolved old.catalog.tables s verb) c.in-Ok.is is in
     let of = c.in-Ok-lawful_plan.ensures.plan in
     let judged : c.catalog.result.now ≡ old.catalog = c.catalog.ensures ∙ ap (λ (e : EngineState g.row.S.Denot). e.catalog) c.self.view_is in
-    let tables : map rows_by_key c.as_slice.result.now ≡ old.tables = ap (map rows_by_key) c.as_slice.ensures.value ∙ ap (λ (e : EngineState g.row.S.Denot). e.tables) c.self.view_is in
+    let tables : map rows_by_key c.current.result.now ≡ old.tables = ap (map rows_by_key) c.current.ensures ∙ ap (λ (e : EngineState g.row.S.Denot). e.tables) c.self.view_is in
     let none = planned_sound old.catalog.tables old.clock s known.form change.action known.sound known.empty of.listed c.in-Ok-lawful_plan.made.plan of.plans in
     let lawful = subst (λ (k : Catalog). IsLawfulChange k.tables (last_state history) change) judged
     (c.in-Ok-lawful_plan.ensures.lawful (last_state history)
@@ -78,7 +78,7 @@ returns-in-Err-lawful_plan-clause-step g c history kept s verb is =
     let refusal : Refusal = c.in-Err-lawful_plan.refusal in
     let known : IsResolved old.catalog.tables s verb (Ok change) = subst (IsResolved old.catalog.tables s verb) c.in-Ok.is is in
     let judged : c.catalog.result.now ≡ old.catalog = c.catalog.ensures ∙ ap (λ (e : EngineState g.row.S.Denot). e.catalog) c.self.view_is in
-    let tables : map rows_by_key c.as_slice.result.now ≡ old.tables = ap (map rows_by_key) c.as_slice.ensures.value ∙ ap (λ (e : EngineState g.row.S.Denot). e.tables) c.self.view_is in
+    let tables : map rows_by_key c.current.result.now ≡ old.tables = ap (map rows_by_key) c.current.ensures ∙ ap (λ (e : EngineState g.row.S.Denot). e.tables) c.self.view_is in
     elim c.in-Err-lawful_plan.ensures.refused [
       | inl none ↦
           inl (applies_in g.S.Store history old kept s (λ (A : Refusal → Type 0). MayAnswer A refusal)

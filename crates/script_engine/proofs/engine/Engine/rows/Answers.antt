@@ -1,21 +1,20 @@
-use Rattle.std.proofs.Common.{map, subst, sym}
+use Rattle.std.proofs.Common.{subst, sym}
 use Rattle.std.proofs.lemmas.Result.{IfOk-weaker}
-use Rattle.period_keys.specs.Current.{rows_by_key}
 use Rattle.version_store.specs.StoreState.{IsUsable, SparesOthers}
 use Rattle.version_store.proofs.Beside.{spares_same}
-use Rattle.script_engine.specs.engine.EngineState.{engine_of}
+use Rattle.script_engine.specs.engine.EngineState.{engine_with}
 use Rattle.script_engine.specs.engine.Stored.{EngineRepresents}
 use Rattle.script_engine.proofs.Answered.{rows_hold}
 use Rattle.script_engine.proofs.engine.Engine.rows.Goals as goal
 
 pub returns-clause-states : goal.returns-clause-states
 returns-clause-states g c usable history kept =
-    let was : EngineRepresents g.S.Store history (engine_of c.self.inside.store (map rows_by_key c.self.inside.tables.items) c.self.inside.ended.items) = subst (λ s. EngineRepresents g.S.Store history s) (sym c.self.view_is) kept in
+    let was : EngineRepresents g.S.Store history (engine_with c.self.inside.store c.self.inside.tables) = subst (λ s. EngineRepresents g.S.Store history s) (sym c.self.view_is) kept in
     IfOk-weaker c.rows.result _ _ (λ rows are moment day before. rows_hold history was.contents c.args.table rows.items was.said are moment day before) (c.rows.ensures.rows usable was.contents was.stored)
 
 pub returns-clause-same : goal.returns-clause-same
 returns-clause-same g c usable history kept =
-    let was : EngineRepresents g.S.Store history (engine_of c.self.inside.store (map rows_by_key c.self.inside.tables.items) c.self.inside.ended.items) = subst (λ s. EngineRepresents g.S.Store history s) (sym c.self.view_is) kept in
+    let was : EngineRepresents g.S.Store history (engine_with c.self.inside.store c.self.inside.tables) = subst (λ s. EngineRepresents g.S.Store history s) (sym c.self.view_is) kept in
     record { contents = was.contents; stored = c.rows.ensures.same usable was.contents was.stored; said = was.said; current = was.current; ended = was.ended }
 
 pub returns-clause-usable : goal.returns-clause-usable

@@ -1,4 +1,4 @@
-use Rattle.std.proofs.Common.{◌≡◌, ◌∙◌, List, Some, ap, ap₂, inl, map, refl, subst, sym}
+use Rattle.std.proofs.Common.{◌≡◌, ◌∙◌, List, Some, ap, inl, map, refl, subst, sym}
 use Rattle.std.proofs.lemmas.Result.{err_from_is_err_and}
 use Rattle.period_core.specs.Leasts.{MayAnswer, NoneApplies}
 use Rattle.period_core.specs.declared.refusal.Refusal.TheVariants.{Memory}
@@ -12,7 +12,7 @@ use Rattle.catalog_core.specs.declared.table.catalog.Catalog.{Catalog}
 use Rattle.period_keys.specs.Current.{rows_by_key}
 use Rattle.script_engine.specs.engine.VersionLists.{AreShownIn}
 use Rattle.script_engine.specs.engine.Ended.{HaveEnded}
-use Rattle.script_engine.specs.engine.EngineState.{EngineState, engine_of}
+use Rattle.script_engine.specs.engine.EngineState.{EngineState, engine_with}
 use Rattle.script_engine.specs.engine.InMemory.{HaveCurrentRows}
 use Rattle.script_engine.proofs.Shown.{failed_show, shown_step}
 use Rattle.script_engine.proofs.Handed.{has_the_same}
@@ -24,18 +24,18 @@ use Rattle.script_engine.proofs.engine.Engine.show.Goals as goal
 pub returns-clause-step : goal.returns-clause-step
 returns-clause-step g c usable history kept =
     let old : EngineState g.row.S.Denot = c.args.self.now in
-    let new : EngineState g.row.S.Denot = engine_of c.self.inside.store (map rows_by_key c.shown_by.new.tables.items) c.shown_by.new.ended.items in
-    let same : new ≡ old = ap₂ (λ ts es. engine_of c.self.inside.store (map rows_by_key ts) es) c.shown_by.ensures.tables c.shown_by.ensures.same ∙ c.self.view_is in
+    let new : EngineState g.row.S.Denot = engine_with c.self.inside.store c.shown_by.new.tables in
+    let same : new ≡ old = ap (engine_with c.self.inside.store) c.shown_by.ensures.same ∙ c.self.view_is in
     let asked = plain_stored c.args.query.now in
     let query = c.in_ok-query.query in
     let definition = c.in-Some.table.now in
     let catalog : c.catalog.result.now ≡ old.catalog = c.catalog.ensures ∙ ap (λ (e : EngineState g.row.S.Denot). e.catalog) c.self.view_is in
     let again : c.catalog-2.result.now ≡ old.catalog = c.catalog-2.ensures ∙ ap (λ (e : EngineState g.row.S.Denot). e.catalog) c.self.view_is in
     let sound = subst (λ (k : Catalog). NoneApplies (Holds (stored_query_conditions k.tables asked))) catalog c.in_ok-query.ensures.sound in
-    let tables : map rows_by_key c.self.inside.tables.items ≡ old.tables = ap (λ (e : EngineState g.row.S.Denot). e.tables) c.self.view_is in
-    let closed : c.self.inside.ended.items ≡ old.ended = ap (λ (e : EngineState g.row.S.Denot). e.ended) c.self.view_is in
-    let current : HaveCurrentRows kept.contents (map rows_by_key c.self.inside.tables.items) = subst (HaveCurrentRows kept.contents) (sym tables) kept.current in
-    let ended : HaveEnded kept.contents c.self.inside.ended.items = subst (HaveEnded kept.contents) (sym closed) kept.ended in
+    let tables : map rows_by_key c.self.inside.tables.current ≡ old.tables = ap (λ (e : EngineState g.row.S.Denot). e.tables) c.self.view_is in
+    let closed : c.self.inside.tables.ended ≡ old.ended = ap (λ (e : EngineState g.row.S.Denot). e.ended) c.self.view_is in
+    let current : HaveCurrentRows kept.contents (map rows_by_key c.self.inside.tables.current) = subst (HaveCurrentRows kept.contents) (sym tables) kept.current in
+    let ended : HaveEnded kept.contents c.self.inside.tables.ended = subst (HaveEnded kept.contents) (sym closed) kept.ended in
     shown_step g.S.Store history old asked kept new query definition c.in_ok-columns.columns c.from_vec.result sound
     (subst (λ (k : Catalog). ResolvesStoredQuery k.tables asked query) catalog c.in_ok-query.ensures.resolved)
     (subst (λ (k : Catalog). table_of k.tables query.table ≡ Some definition) again c.in-Some.ensures)
@@ -47,8 +47,8 @@ pub returns-in_err-rows-clause-step : goal.returns-in_err-rows-clause-step
 returns-in_err-rows-clause-step g c usable history kept =
     let p = err_from_is_err_and c.from_residual-in_err-rows.result c.from_residual-in_err-rows.ensures.1 in
     rw (p.1, p.2) (let old : EngineState g.row.S.Denot = c.args.self.now in
-    let new : EngineState g.row.S.Denot = engine_of c.self.inside.store (map rows_by_key c.shown_by.new.tables.items) c.shown_by.new.ended.items in
-    let same : new ≡ old = ap₂ (λ ts es. engine_of c.self.inside.store (map rows_by_key ts) es) c.shown_by.ensures.tables c.shown_by.ensures.same ∙ c.self.view_is in
+    let new : EngineState g.row.S.Denot = engine_with c.self.inside.store c.shown_by.new.tables in
+    let same : new ≡ old = ap (engine_with c.self.inside.store) c.shown_by.ensures.same ∙ c.self.view_is in
     let asked = plain_stored c.args.query.now in
     let catalog : c.catalog.result.now ≡ old.catalog = c.catalog.ensures ∙ ap (λ (e : EngineState g.row.S.Denot). e.catalog) c.self.view_is in
     let sound = subst (λ (k : Catalog). NoneApplies (Holds (stored_query_conditions k.tables asked))) catalog c.in_ok-query.ensures.sound in
@@ -64,7 +64,7 @@ pub returns-in_err-rows-clause-queries : goal.returns-in_err-rows-clause-queries
 returns-in_err-rows-clause-queries g c usable history kept =
     let p = err_from_is_err_and c.from_residual-in_err-rows.result c.from_residual-in_err-rows.ensures.1 in
     rw (p.1, p.2) (let old : EngineState g.row.S.Denot = c.args.self.now in
-    let new : EngineState g.row.S.Denot = engine_of c.self.inside.store (map rows_by_key c.shown_by.new.tables.items) c.shown_by.new.ended.items in
+    let new : EngineState g.row.S.Denot = engine_with c.self.inside.store c.shown_by.new.tables in
     failed_query g.S.Store old new (statement.stored (plain_stored c.args.query.now)) Memory (inl refl))
 
 pub returns-clause-over : goal.returns-clause-over
@@ -72,8 +72,8 @@ returns-clause-over g c =
     let asked = plain_stored c.args.query.now in
     let old : EngineState g.row.S.Denot = c.args.self.now in
     let catalog : c.catalog.result.now ≡ old.catalog = c.catalog.ensures ∙ ap (λ (e : EngineState g.row.S.Denot). e.catalog) c.self.view_is in
-    let new : EngineState g.row.S.Denot = engine_of c.self.inside.store (map rows_by_key c.shown_by.new.tables.items) c.shown_by.new.ended.items in
-    let same : new ≡ old = ap₂ (λ ts es. engine_of c.self.inside.store (map rows_by_key ts) es) c.shown_by.ensures.tables c.shown_by.ensures.same ∙ c.self.view_is in
+    let new : EngineState g.row.S.Denot = engine_with c.self.inside.store c.shown_by.new.tables in
+    let same : new ≡ old = ap (engine_with c.self.inside.store) c.shown_by.ensures.same ∙ c.self.view_is in
     asked_over g.S.Store old (statement.stored asked) new _ same
     (subst (λ (k : Catalog). NoneApplies (Holds (stored_query_conditions k.tables asked))) catalog c.in_ok-query.ensures.sound) (refl, refl)
 
@@ -90,8 +90,8 @@ returns-in_err-rows-clause-over g c =
     rw (p.1, p.2) (let asked = plain_stored c.args.query.now in
     let old : EngineState g.row.S.Denot = c.args.self.now in
     let catalog : c.catalog.result.now ≡ old.catalog = c.catalog.ensures ∙ ap (λ (e : EngineState g.row.S.Denot). e.catalog) c.self.view_is in
-    let new : EngineState g.row.S.Denot = engine_of c.self.inside.store (map rows_by_key c.shown_by.new.tables.items) c.shown_by.new.ended.items in
-    let same : new ≡ old = ap₂ (λ ts es. engine_of c.self.inside.store (map rows_by_key ts) es) c.shown_by.ensures.tables c.shown_by.ensures.same ∙ c.self.view_is in
+    let new : EngineState g.row.S.Denot = engine_with c.self.inside.store c.shown_by.new.tables in
+    let same : new ≡ old = ap (engine_with c.self.inside.store) c.shown_by.ensures.same ∙ c.self.view_is in
     untouched_over g.S.Store old (statement.stored asked) new Memory same
     (failed_over old.catalog.tables old.clock (statement.stored asked) Memory
     (subst (λ (k : Catalog). NoneApplies (Holds (stored_query_conditions k.tables asked))) catalog c.in_ok-query.ensures.sound) (inl refl)))

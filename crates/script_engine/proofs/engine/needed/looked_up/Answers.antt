@@ -1,4 +1,4 @@
-use Rattle.std.proofs.Common.{◌≡◌, ◌+◌, ◌++◌, ◌∷◌, ◌∙◌, [], List, ap, map, refl, subst, subst₂, sym, take}
+use Rattle.std.proofs.Common.{◌≡◌, ◌+◌, ◌++◌, ◌∷◌, ◌∙◌, [], List, ap, map, subst, sym, take}
 use Rattle.std.proofs.lemmas.List.{take_all, take_more}
 use Rattle.history_model.specs.OrdinaryQuery.{VisibleInHistory}
 use Rattle.period_core.specs.declared.row.PeriodRow.{PeriodRow}
@@ -7,15 +7,14 @@ use Rattle.period_keys.specs.Current.{rows_by_key}
 use Rattle.period_keys.specs.FixedKeys.{IsRangeAfter}
 use Rattle.period_keys.specs.declared.row_range.RowRange.{RowRange}
 use Rattle.script_engine.specs.engine.Needed.{HaveRowFrom, IsPrunedAfter}
-use Rattle.script_engine.specs.engine.Stored.{RowsRepresent}
+use Rattle.script_engine.specs.engine.Stored.{TablesRepresent}
 use Rattle.script_engine.proofs.Needed.{looked_up_alike}
 use Rattle.script_engine.proofs.Read.{its_read, read_after, read_after_none}
 use Rattle.script_engine.proofs.engine.needed.looked_up.Goals as goal
 
 pub loop-row-init : goal.loop-row-init
 loop-row-init c = record {
-  tables = c.rows_left.ensures.same;
-  same = refl;
+  same = c.rows_left.ensures.same;
   needed = λ history represents wide.
       subst (IsPrunedAfter (HaveRowFrom [] c.args.at) c.args.conditions.now.conjuncts.now c.args.conditions.now.start (λ day. VisibleInHistory history day c.args.conditions.now.reference.now)) (sym c.new-rows.ensures.items)
       (read_after_none history c.args.conditions.now.conjuncts.now c.args.conditions.now.start c.args.at c.args.conditions.now.reference.now);
@@ -27,29 +26,27 @@ loop-row-preserved c =
     let start = c.args.conditions.now.start in
     let width = c.args.conditions.now.width in
     let reference = c.args.conditions.now.reference.now in
-    let tables = map rows_by_key c.as_slice-tables.result.now in
+    let tables = c.rows_left-in-loop-row.new.self in
     let previous : List PeriodRow = c.args.previous.now in
     let i = c.loop-row.row-index in
     let row : PeriodRow = c.row-item.result in
     let access = c.of-access.result in
-    let lists = c.loop-row.ended.items in
     let old : List PeriodRow = c.loop-row.rows.items in
     let new : List PeriodRow = c.read_chained.new.rows.items in
     let next : take (i + 1) previous ≡ take i previous ++ row ∷ [] =
     take_more previous i row c.loop-row-test.true ∙ ap (λ (r : PeriodRow). take i previous ++ r ∷ []) (sym c.row-item.is) in
     let at = c.args.at in
-    let kept = c.as_slice-tables.ensures.value ∙ c.rows_left-in-loop-row.ensures.same ∙ c.loop-row.invariant.tables in
+    let kept = c.rows_left-in-loop-row.ensures.same ∙ c.loop-row.invariant.same in
     let within : IsRangeAfter conjuncts row.values at start width access.rows.positions access.rows.range =
     subst (λ (rows : RowRange). IsRangeAfter conjuncts row.values at start width rows.positions rows.range) (sym c.of-access.ensures.rows)
     (subst (λ (values : List Value). IsRangeAfter conjuncts values at start width c.in_ok-left.left.positions c.in_ok-left.left.range) c.as_slice-known.ensures c.in_ok-left.ensures.left) in
     record {
-      tables = c.rows_left-in-loop-row.ensures.same ∙ c.loop-row.invariant.tables;
-      same = c.read_chained.ensures.same ∙ c.loop-row.invariant.same;
+      same = c.read_chained.ensures.same ∙ kept;
       needed = λ history represents wide.
-          let its : RowsRepresent history tables lists = subst₂ (RowsRepresent history) (sym (ap (map rows_by_key) kept)) (sym c.loop-row.invariant.same) represents in
-          let (some, read, made) = its_read history tables lists reference its access conjuncts start old new c.of-access.ensures.table c.in_ok-read_chained.ensures.read in
+          let its : TablesRepresent history tables = subst (TablesRepresent history) (sym kept) represents in
+          let (some, read, made) = its_read history (map rows_by_key tables.current) tables.ended reference its access conjuncts start old new c.of-access.ensures.table c.in_ok-read_chained.ensures.read in
           subst (λ (rows : List PeriodRow). IsPrunedAfter (HaveRowFrom rows c.args.at) conjuncts start (λ day. VisibleInHistory history day reference) new) (sym next)
-          (read_after history tables lists reference its conjuncts start width access some c.of-access.ensures.window read
+          (read_after history (map rows_by_key tables.current) tables.ended reference its conjuncts start width access some c.of-access.ensures.window read
           (take i previous) row old new at wide within made (c.loop-row.invariant.needed history represents wide));
     }
 

@@ -5,7 +5,7 @@ use Rattle.period_keys.specs.Current.{rows_by_key}
 use Rattle.period_keys.specs.FixedKeys.{IsRangeWithin}
 use Rattle.period_keys.specs.declared.row_range.RowRange.{RowRange}
 use Rattle.script_engine.specs.engine.Needed.{IsNeeded}
-use Rattle.script_engine.specs.engine.Stored.{RowsRepresent}
+use Rattle.script_engine.specs.engine.Stored.{TablesRepresent}
 use Rattle.script_engine.proofs.Read.{its_read, read_needed}
 use Rattle.script_engine.proofs.engine.needed.needed_by.Goals as goal
 
@@ -14,14 +14,13 @@ returns-clause-needed c = λ history represents wide.
     let conjuncts = c.args.conditions.now.conjuncts.now in
     let start = c.args.conditions.now.start in
     let reference = c.args.conditions.now.reference.now in
-    let tables = map rows_by_key c.as_slice-tables.result.now in
-    let lists = c.args.ended.now.items in
-    let its : RowsRepresent history tables lists = subst (λ ts. RowsRepresent history ts lists) (sym (ap (map rows_by_key) (c.as_slice-tables.ensures.value ∙ c.rows_left.ensures.same))) represents in
+    let tables = c.rows_left.new.self in
+    let its : TablesRepresent history tables = subst (TablesRepresent history) (sym c.rows_left.ensures.same) represents in
     let access = c.of-access.result in
     let before : List PeriodRow = c.new-rows.result.items in
     let new : List PeriodRow = c.read_chained.new.rows.items in
-    let (some, read, made) = its_read history tables lists reference its access conjuncts start before new c.of-access.ensures.table c.in_ok-read_chained.ensures.read in
+    let (some, read, made) = its_read history (map rows_by_key tables.current) tables.ended reference its access conjuncts start before new c.of-access.ensures.table c.in_ok-read_chained.ensures.read in
     let within : IsRangeWithin conjuncts start c.args.conditions.now.width access.rows.positions access.rows.range =
     subst (λ (rows : RowRange). IsRangeWithin conjuncts start c.args.conditions.now.width rows.positions rows.range) (sym c.of-access.ensures.rows) c.in_ok-left.ensures.left in
     subst (IsNeeded history conjuncts start reference) (sym (made ∙ ap (λ (rows : List PeriodRow). rows ++ map row_of some) c.new-rows.ensures.items))
-    (read_needed history tables lists reference its conjuncts start c.args.conditions.now.width access some c.of-access.ensures.window read wide within)
+    (read_needed history (map rows_by_key tables.current) tables.ended reference its conjuncts start c.args.conditions.now.width access some c.of-access.ensures.window read wide within)

@@ -13,8 +13,8 @@ use Rattle.script_engine.proofs.engine.sequenced_queries.seen_by.Goals as goal
 pub returns : goal.returns
 returns c = λ history represents.
     let reference = c.args.reference.now in
-    let tables = map rows_by_key c.args.tables.now in
-    let lists = c.args.ended.now in
+    let tables = map rows_by_key c.args.tables.now.current in
+    let lists = c.args.tables.now.ended in
     let access = c.of-access.result in
     let new : List PeriodRow = c.read.new.rows.items in
     let (some, read, made) = its_read history tables lists reference represents access [] 0 c.new-rows.result.items new c.of-access.ensures.table c.in_ok-read.ensures in
