@@ -1,6 +1,9 @@
 //! A copy of the engine's store in another database.
 
-ghost use Rattle.std.specs.Prelude.{◌≡◌, false, IfErr, OnOk};
+ghost use Rattle.std.specs.Prelude.{◌≡◌, ◌≢◌, false, IfErr, OnOk};
+ghost use Rattle.period_core.specs.declared.refusal.Refusal.TheVariants.{Store as StoreRefusal};
+ghost use Rattle.sqlite.specs.Held.{state};
+ghost use Rattle.version_tables.specs.Tables.{no_schema};
 ghost use Rattle.version_store.specs.StoreState.{IsStoreRefusal, IsUsable, SparesOthers};
 ghost use Rattle.history_model.specs.Histories.{History};
 ghost use Rattle.script_engine.specs.engine.Copies.{Holds};
@@ -28,6 +31,9 @@ impl<S: Alter> Engine<S> {
         ensures copied { IsUsable S.Store self.new.connection → IsUsable T.Store copy.new
             → (history : History) → EngineRepresents S.Store history self.old
             → OnOk result (Holds T.Store history copy.new) }
+        ensures new { OnOk result ((state T.Store copy.old).now.schema ≡ no_schema) }
+        ensures not_new { (state T.Store copy.old).now.schema ≢ no_schema
+            → result ≡ Err StoreRefusal }
         ensures mode { copy.new.in_transaction ≡ false }
         ensures copy_usable { WasUsable T.Store copy.old copy.new }
         ensures same { IsUsable S.Store self.new.connection

@@ -1,6 +1,6 @@
 //! The tables in memory, loaded from what was read of a store as it was opened.
 
-ghost use Rattle.std.specs.Prelude.{◌≡◌, ◌⊎◌, ◌++◌, ℕ, [], IfErr, IfOk, IfSome, IsPermutation, List};
+ghost use Rattle.std.specs.Prelude.{◌≡◌, ◌⊎◌, ℕ, [], IfErr, IfOk, IfSome, IsPermutation, List};
 ghost use Rattle.std.specs.Prelude.{None, OnErr, OnOk, filter, length, map};
 ghost use Rattle.ended_versions.specs.Packed.{AreEndedBy, Hold};
 ghost use Rattle.period_core.specs.declared.refusal.Refusal.TheVariants.{BadStore};
@@ -8,7 +8,6 @@ ghost use Rattle.period_core.specs.declared.refusal.Refusal.TheVariants.{Memory 
 ghost use Rattle.period_core.specs.declared.version.VersionRow.{VersionRow as Version};
 ghost use Rattle.period_keys.specs.Current.{rows_by_key};
 ghost use Rattle.period_keys.specs.Lawful.{key_positions};
-ghost use Rattle.period_keys.specs.Rows.{HasRows};
 ghost use Rattle.version_store.specs.Contents.{Contents, rows_of_table};
 ghost use Rattle.version_store.specs.GoodStore.{AreGood, AreLawful, NoExtraCondition};
 ghost use Rattle.version_store.specs.StoreState.{IsOpenRefusal, IsStoreRefusal};
@@ -33,16 +32,6 @@ fn no_rows(alloc: Global, table: &TableDef) -> Result<CurrentRows, Memory>
 {
     let positions = positions_of(alloc, table, table.key.as_slice())?;
     Ok(CurrentRows::new(alloc, Items::from_vec(positions)))
-}
-
-/// Adds rows, one after the other.
-fn add_each(alloc: Global, current: &mut CurrentRows, rows: Vec<VersionRow>) -> Result<(), Memory>
-    ensures { OnOk result (HasRows (rows.items ++ current.old.rows) current.old current.new) }
-{
-    for row in rows {
-        current.add(alloc, row)?;
-    }
-    Ok(())
 }
 
 /// The versions in two lists: the current ones, and those that have ended.
@@ -119,7 +108,7 @@ fn load_table(
     let mut rows = no_rows(alloc, table)?;
     let none = no_versions(alloc, table)?;
     let (current, ended) = split_by_end(alloc, versions.into_vec())?;
-    add_each(alloc, &mut rows, current)?;
+    rows.add_each(alloc, current)?;
     let found = load_ended(alloc, none, ended, clock)?;
     match found {
         Some(list) => Ok((rows, list)),

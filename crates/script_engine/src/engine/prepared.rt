@@ -22,7 +22,7 @@ fn rows_of_table<C: RowConditions>(
 {
     let rows = table.rows_of(alloc, conditions)?;
     if table.rows().positions() != rows.positions.as_slice() {
-        table.prepare(alloc, conditions)?;
+        table.prepare_for(alloc, &rows)?;
     }
     Ok(rows)
 }

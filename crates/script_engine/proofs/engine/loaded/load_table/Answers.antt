@@ -9,7 +9,7 @@ use Rattle.script_engine.proofs.engine.loaded.load_table.Goals as goal
 pub returns-in-Some-clause-current : goal.returns-in-Some-clause-current
 returns-in-Some-clause-current c =
     let current : List VersionRow = c.in_ok-current.current.items in
-    let loaded : List VersionRow = c.add_each.new.current.rows in
+    let loaded : List VersionRow = c.add_each.new.self.rows in
     let all : IsPermutation loaded (current ++ c.in_ok-rows.rows.rows) = c.in_ok-add_each.ensures.rows in
     let same : IsPermutation loaded current = subst (IsPermutation loaded) (append-nil current) (subst (λ (l : List VersionRow). IsPermutation loaded (current ++ l)) c.in_ok-rows.ensures.none all) in
     let are : current ≡ filter is_current c.args.versions = c.in_ok-current.ensures.current ∙ ap (filter is_current) c.into_vec.ensures in
