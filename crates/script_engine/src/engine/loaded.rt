@@ -1,7 +1,7 @@
 //! The tables in memory, loaded from what was read of a store as it was opened.
 
-ghost use Rattle.std.specs.Prelude.{◌≡◌, ◌⊎◌, ◌++◌, ℕ, [], IfErr, IfOk, IfSome, IsPermutation, List};
-ghost use Rattle.std.specs.Prelude.{None, OnErr, OnOk, filter, length, map};
+ghost use Rattle.std.specs.Prelude.{◌≡◌, ◌⊎◌, ◌++◌, ℕ, [], IfErr, IfOk, IfSome, IsPermutation};
+ghost use Rattle.std.specs.Prelude.{List, None, OnErr, OnOk, filter, length, map};
 ghost use Rattle.ended_versions.specs.Packed.{AreEndedBy, Hold};
 ghost use Rattle.period_core.specs.declared.refusal.Refusal.TheVariants.{BadStore};
 ghost use Rattle.period_core.specs.declared.refusal.Refusal.TheVariants.{Memory as OutOfMemory};
