@@ -29,7 +29,7 @@ module _ {S : Type 0} (g : Ghosts S) (history : History) (engine : EngineState S
       let all : RowsRepresent history engine.tables engine.ended = record { contents = kept.contents; said = kept.said; current = kept.current; ended = kept.ended } in
       subst (λ (e : EngineState S). RowsRepresent history e.tables e.ended) (sym same) all
 
-  -- what a query is resolved to is of the history's catalog
+  -- the query that is resolved is of the history's catalog
   pub handed_query : (asked : written.Query) (query : Query) → ResolvesSequenced engine.catalog.tables asked query → IsOfCatalog (catalog_of history) query
   handed_query asked query found =
       of_catalog (catalog_of history) asked query (subst (λ (tables : List TableDef). ResolvesSequenced tables asked query) (tables_of g history engine kept) found)

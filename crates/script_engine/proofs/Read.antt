@@ -1,6 +1,6 @@
 -- The rows that are read of a table's versions in memory: those that a reference sees, or that it
 -- needs of them.
-use Rattle.std.proofs.Common.{◌≡◌, ◌⊎◌, false, ◌++◌, ◌∷◌, ◌∙◌, [], ℕ, ℤ, List, ap, append_assoc, arith, inl, inr, length, length-append, map, refl, subst, sym, true}
+use Rattle.std.proofs.Common.{◌≡◌, ◌⊎◌, false, ◌++◌, ◌∷◌, ◌∙◌, [], ℕ, ℤ, List, ap, append_assoc, inl, inr, length, map, refl, subst, sym, true}
 use Rattle.std.specs.Prelude.{IsTrue}
 use Rattle.std.proofs.lemmas.Bool.{false≢true}
 use Rattle.std.specs.List.{Contains}

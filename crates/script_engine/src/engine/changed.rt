@@ -1,7 +1,7 @@
 //! A change made, in a store and in memory.
 
-ghost use Rattle.std.specs.Prelude.{◌≡◌, ◌++◌, IfErr, IsPermutation, List, OnErr, OnOk, Some, length};
-ghost use Rattle.std.specs.Prelude.{map};
+ghost use Rattle.std.specs.Prelude.{◌≡◌, ◌++◌, IfErr, IsPermutation, List, OnErr, OnOk, Some};
+ghost use Rattle.std.specs.Prelude.{length, map};
 ghost use Rattle.catalog_core.specs.declared.table.TableDef.{TableDef as Definition};
 ghost use Rattle.catalog_core.specs.table.TableWords.{table_of};
 ghost use Rattle.ended_versions.specs.Packed.{AreEndedBy, AreOfColumns, closed_at, packed};

@@ -42,9 +42,9 @@ impl Model for TablesInMemory {
 /// The versions of one table.
 #[derive(Clone, Copy)]
 pub struct VersionTable<'a> {
-    /// The current ones.
+    /// The current versions.
     pub current: &'a TableIndex,
-    /// Those that have ended.
+    /// The versions that have ended.
     pub ended: &'a EndedVersions,
 }
 

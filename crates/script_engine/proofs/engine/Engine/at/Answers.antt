@@ -1,4 +1,4 @@
-use Rattle.std.proofs.Common.{◌≤ℤ◌, ◌<ℤ◌, ◌∙◌, ap, refl, rules, subst, sym}
+use Rattle.std.proofs.Common.{◌≤ℤ◌, ◌<ℤ◌, ap, refl, rules, subst, sym}
 use Rattle.period_core.specs.Moments.{forever}
 use Rattle.script_engine.specs.engine.EngineState.{engine_with}
 use Rattle.script_engine.specs.engine.Stored.{EngineRepresents, HasContents}

@@ -1,7 +1,7 @@
-use Rattle.std.proofs.Common.{◌≡◌, ◌++◌, ◌∙◌, ℕ, List, ap, map, refl, rules, subst, sym, true}
+use Rattle.std.proofs.Common.{◌≡◌, ◌++◌, ◌∙◌, List, ap, map, refl, rules, subst, sym}
 use Rattle.std.proofs.lemmas.List.{map-id}
 use Rattle.std.specs.List.Sorted.{IsPermutation}
-use Rattle.catalog_core.specs.stored.StoredAnswers.{is_shown, shown_versions}
+use Rattle.catalog_core.specs.stored.StoredAnswers.{shown_versions}
 use Rattle.period_core.specs.declared.version.VersionRow.{VersionRow}
 use Rattle.period_keys.specs.Current.{rows_by_key}
 use Rattle.script_engine.specs.declared.engine.reading.Access.{Access}

@@ -1,4 +1,4 @@
-use Rattle.std.proofs.Common.{◌≡◌, ◌-◌, ◌++◌, ◌∙◌, ℤ, List, map, set, subst, sym}
+use Rattle.std.proofs.Common.{◌-◌, ◌++◌, ℤ, List, map, set, subst, sym}
 use Rattle.std.specs.List.Sorted.{IsPermutation}
 use Rattle.std.proofs.lemmas.List.Elements.{All-set}
 use Rattle.std.proofs.lemmas.Result.{on_err_weaker, on_ok_weaker}
