@@ -45,3 +45,4 @@ mod KeyExamples
 mod KeyAfterExamples
 mod LawfulExamples
 mod CurrentExamples
+mod SecondaryExamples

@@ -88,7 +88,7 @@ entries_back key other old now n items given new is size same step have =
 
 module _ (positions : List ℕ) (range : KeyRange) (key : List Value) (groups : BTreeMap (List Value) KeyRows) (grouped : AreGrouped positions groups)
     (whole : (v : VersionRow) → has_key_in positions range v ≡ true → version_key positions v ≡ key) where
-  -- its rows are those of the key, if it has this one
+  -- rows in the range are those of the key, if it has this one
   pub rows_of_whole : is_in_range range key ≡ true → filter (has_key_in positions range) (rows_of_groups groups.entries) ≡ option_map_or rows_in (get values_cmp groups key) []
   rows_of_whole inside =
       kept_alike (has_key_in positions range) (is_of_key positions key) (rows_of_groups groups.entries) (λ v there. by_tests v (has_key_in positions range v) (is_of_key positions key v) refl refl)
@@ -100,7 +100,7 @@ module _ (positions : List ℕ) (range : KeyRange) (key : List Value) (groups : 
       by_tests v false true is same = absurd (false≢true (sym is ∙ subst (λ (k : List Value). is_in_range range k ≡ true) ((values_eq key (version_key positions v)).0 same) inside))
       by_tests v false false is other = refl
 
-  -- and it has no rows, if it does not
+  -- without the key there are none
   pub no_rows_of_whole : is_in_range range key ≡ false → filter (has_key_in positions range) (rows_of_groups groups.entries) ≡ []
   no_rows_of_whole outside = each_alike (has_key_in positions range) false (rows_of_groups groups.entries) (λ v there. by_test v (has_key_in positions range v) refl)
     where
