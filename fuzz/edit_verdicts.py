@@ -16,7 +16,7 @@ from typing import Any
 import edit_places
 from edit_places import Edit
 
-MOST_AT_ONCE = 60
+MOST_AT_ONCE = 24
 REFUSED, BY_NAME, NOT_REFUSED, BAD = (
     'refused', 'refused by a name only', 'NOT REFUSED', 'BAD EDIT')
 FUNCTION = re.compile(r'fn (\S+): (.*)')
