@@ -31,15 +31,18 @@ class Function:
     last: int
 
     def paths(self, crate: str, printed: Iterable[str]) -> list[str]:
-        """Of the paths that a check printed of this crate's functions, those that may be of this
-        one. A method may be of several types of its file, so there may be several."""
+        """The paths of this function of the crate among those that a check printed: of a method of
+        a trait all of the methods of its name in its file, since a path joins the type's name and
+        the trait's. None if it cannot be told from functions of other files."""
         parts = pathlib.PurePosixPath(self.file).with_suffix('').parts[1:]
         module = '::'.join([crate, *(part for part in parts if part not in ('lib', 'mod'))])
-        own = [path for path in printed if path.rpartition('::')[2] == self.name]
-        exact = f'{module}::{self.owner}::{self.name}' if self.owner else f'{module}::{self.name}'
-        return ([path for path in own if path == exact]
-                or [path for path in own if path.startswith(f'{module}::')]
-                or [path for path in own if re.search(rf'\b{self.owner or module}\b', path)])
+        alike = [path for path in printed if path.rpartition('::')[2] == self.name]
+        exact = [path for path in alike
+                 if path == '::'.join(filter(None, [module, self.owner, self.name]))]
+        here = [path for path in alike if self.owner and path.rsplit('::', 2)[0] == module]
+        of_owner = [path for path in alike
+                    if self.owner and re.search(rf'\b{self.owner}\b', path)]
+        return exact or here or (of_owner if len(of_owner) == 1 else [])
 
 
 class Sources:

@@ -16,6 +16,7 @@ from typing import Any
 import edit_places
 from edit_places import Edit
 
+# (more take few further seconds each, and none has a verdict before all do)
 MOST_AT_ONCE = 24
 REFUSED, BY_NAME, NOT_REFUSED, BAD = (
     'refused', 'refused by a name only', 'NOT REFUSED', 'BAD EDIT')
