@@ -143,7 +143,7 @@ impl CurrentRows {
     }
 
     /// Adds a row. An error changes nothing.
-    pub fn add(&mut self, alloc: Global, row: VersionRow) -> Result<(), Memory>
+    pub(crate) fn add(&mut self, alloc: Global, row: VersionRow) -> Result<(), Memory>
         ensures ok { OnOk result (HasRows (row ∷ self.old.rows) self.old self.new) }
         ensures err { OnErr result (self.new ≡ self.old) }
     {

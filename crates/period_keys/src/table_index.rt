@@ -126,7 +126,11 @@ impl TableIndex {
 
     /// Makes the secondary index by which `groups_of` finds the rows that conditions leave, if
     /// there is to be one, and it is not there yet.
-    pub fn prepare<C: RowConditions>(&mut self, alloc: Global, conditions: &C) -> Result<(), Memory>
+    pub(crate) fn prepare<C: RowConditions>(
+        &mut self,
+        alloc: Global,
+        conditions: &C,
+    ) -> Result<(), Memory>
         ensures { self.new ≡ self.old }
     {
         if self.indexes.is_empty() {
