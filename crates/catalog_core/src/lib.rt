@@ -36,7 +36,7 @@ pub use query::fit::fits;
 pub use query::resolved::{Query, QueryReference, Select, Tables};
 pub use query::{AnswerColumn, resolved};
 pub use stored::{PeriodSide, Stored, VersionTest, meets};
-pub use table::catalog::{Catalog, of_number};
+pub use table::catalog::{Catalog, of_number, of_number_mut};
 pub use table::columns::{def_places, is_value_column, names_non_value_column, value_position};
 pub use table::kinds::{def_kind, differ, is_system, kind_of_column, kind_of_value, same_kind};
 pub use table::match_counts::{MatchCount, def_matches, match_count, repeats, some_def_match};

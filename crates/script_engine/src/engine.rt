@@ -51,7 +51,6 @@ mod in_memory;
 mod lawfulness;
 mod loaded;
 mod needed;
-mod numbers;
 mod outcome;
 mod prepared;
 mod reading;

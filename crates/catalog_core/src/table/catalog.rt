@@ -1,8 +1,10 @@
 //! The catalog: the tables by their numbers.
 
-ghost use Rattle.std.specs.Prelude.{◌≡◌, ◌≤◌, ◌<◌, ◌++◌, ◌∷◌, [], IfOk, IfSome, IsSome, true};
-ghost use Rattle.std.specs.Prelude.{MatchOption, None, OnErr, Some, length};
+ghost use Rattle.std.specs.Borrow.{sem};
+ghost use Rattle.std.specs.Prelude.{◌≡◌, ◌≤◌, ◌<◌, ◌++◌, ◌-◌, ◌∷◌, [], IfOk, IfSome, IsSome};
+ghost use Rattle.std.specs.Prelude.{MatchOption, None, OnErr, Some, length, true};
 ghost use Rattle.std.specs.List.{list_all};
+ghost use Rattle.std.specs.Vec.{vec_follows_get};
 ghost use Rattle.catalog_core.specs.Limits.{most_tables};
 ghost use Rattle.catalog_core.specs.table.TableWords.{has_date_period, has_distinct_names};
 ghost use Rattle.catalog_core.specs.table.TableWords.{number_of, table_of};
@@ -10,7 +12,7 @@ ghost use Rattle.catalog_core.specs.table.TableWords.{number_of, table_of};
 use crate::table::TableDef;
 use period_core::{Items, Memory};
 use sql_statements::Name;
-use std::alloc::Global;
+use std::alloc::{Allocator, Global};
 
 /// The tables in the order of their creation, numbered from 1. The application period of each is
 /// over two different DATE columns, and no two columns of a table share a name.
@@ -32,6 +34,19 @@ pub fn of_number<T>(entries: &[T], number: u8) -> Option<&T>
         return None;
     }
     entries.get(usize::from(number) - 1)
+}
+
+/// The entry of such a list for the table of this number, to be changed.
+pub fn of_number_mut<T, A: Allocator>(entries: &mut Vec<T, A>, number: u8) -> Option<&mut T>
+    ensures* writes_back { sem 𝓛 (vec_follows_get T.row A.row A.Allocator entries.entry
+        (number - 1) result) }
+    ensures found { MatchOption result (table_of entries.old.items number ≡ None)
+        (λ entry. table_of entries.old.items number ≡ Some entry.now) }
+{
+    if number == 0 {
+        return None;
+    }
+    entries.get_mut(usize::from(number) - 1)
 }
 
 impl Catalog {

@@ -9,8 +9,8 @@ ghost use Rattle.script_engine.specs.engine.Ended.{ended_in};
 ghost use Rattle.script_engine.specs.engine.Reading.{AddRead, MayBeUnread, versions_in};
 
 use crate::engine::in_memory::TablesInMemory;
-use crate::engine::numbers::of_number_mut;
 use crate::engine::reading::{Access, Selection, read};
+use catalog_core::of_number_mut;
 use period_core::Memory;
 use std::alloc::Global;
 

@@ -21,8 +21,7 @@ ghost use Rattle.script_engine.specs.engine.InMemory.{AreKeysIn, FollowCatalog, 
 ghost use Rattle.script_engine.specs.engine.Stored.{WasUsable};
 
 use crate::engine::in_memory::TablesInMemory;
-use crate::engine::numbers::of_number_mut;
-use catalog_core::Plan;
+use catalog_core::{Plan, of_number_mut};
 use ended_versions::EndedVersions;
 use period_core::Refusal;
 use period_keys::{Key, TableIndex, rows_of};

@@ -17,8 +17,7 @@ ghost use Rattle.script_engine.specs.engine.Faults.{AreConstrained};
 ghost use Rattle.script_engine.specs.engine.InMemory.{AreReadOf, FollowCatalog, HaveCurrentRows};
 
 use crate::engine::in_memory::{TablesInMemory, no_versions};
-use crate::engine::numbers::of_number_mut;
-use catalog_core::{Catalog, TableDef};
+use catalog_core::{Catalog, TableDef, of_number_mut};
 use ended_versions::EndedVersions;
 use period_core::{Items, Memory, Moment, Refusal, VersionRow};
 use period_keys::{CurrentRows, is_lawful, positions_of, tables_of};

@@ -4,8 +4,7 @@
 ghost use Rattle.std.specs.Prelude.{◌≡◌, IfOk};
 
 use crate::engine::in_memory::TablesInMemory;
-use crate::engine::numbers::of_number_mut;
-use catalog_core::Change;
+use catalog_core::{Change, of_number_mut};
 use period_core::Memory;
 use period_keys::{RowConditions, RowRange, TableIndex, prepare_plan};
 use std::alloc::Global;
