@@ -5,6 +5,7 @@ pub mod Ended
 pub mod Faults
 pub mod Stored
 pub mod Moved
+pub mod Changed
 pub mod Planned
 pub mod VersionLists
 pub mod Answering

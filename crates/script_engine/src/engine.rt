@@ -50,6 +50,7 @@ mod copied;
 mod in_memory;
 mod lawfulness;
 mod loaded;
+mod looked_up_rows;
 mod needed;
 mod outcome;
 mod prepared;

@@ -1,7 +1,6 @@
 //! A change made, in a store and in memory.
 
-ghost use Rattle.std.specs.Prelude.{◌≡◌, ◌++◌, IfErr, IsPermutation, List, OnErr, OnOk, Some};
-ghost use Rattle.std.specs.Prelude.{length, map};
+ghost use Rattle.std.specs.Prelude.{◌≡◌, ◌++◌, IsPermutation, List, OnErr, OnOk, Some, map};
 ghost use Rattle.catalog_core.specs.declared.table.TableDef.{TableDef as Definition};
 ghost use Rattle.catalog_core.specs.table.TableWords.{table_of};
 ghost use Rattle.ended_versions.specs.Packed.{AreEndedBy, AreOfColumns, closed_at, packed};
@@ -10,15 +9,9 @@ ghost use Rattle.period_keys.specs.Current.{rows_by_key};
 ghost use Rattle.period_keys.specs.Keys.{key_values};
 ghost use Rattle.period_keys.specs.TableRows.{HasTableRows};
 ghost use Rattle.period_keys.specs.Versions.{begun};
-ghost use Rattle.version_store.specs.Changed.{CanMake, planned};
-ghost use Rattle.version_store.specs.Contents.{Contents};
-ghost use Rattle.version_store.specs.DistinctKeys.{HaveDistinctKeys};
-ghost use Rattle.version_store.specs.StoreState.{Changes, FailsForReason, IsStoreRefusal};
-ghost use Rattle.version_store.specs.StoreState.{IsUsable, SparesOthers, StaysOnErr};
-ghost use Rattle.version_store.specs.StoreState.{StoreRepresents};
+ghost use Rattle.script_engine.specs.engine.Changed.{MakesPlan};
 ghost use Rattle.script_engine.specs.engine.Ended.{AllEndedBy, HaveClosed};
 ghost use Rattle.script_engine.specs.engine.InMemory.{AreKeysIn, FollowCatalog, HaveRows, rows_in};
-ghost use Rattle.script_engine.specs.engine.Stored.{WasUsable};
 
 use crate::engine::in_memory::TablesInMemory;
 use catalog_core::{Plan, of_number_mut};
@@ -43,18 +36,7 @@ fn apply_plan<S: Alter>(
     requires split { (stay : List Version)
         × IsPermutation table.old.rows (plan.now.ended ++ stay) }
     requires keys { keys.items ≡ map (key_values table.old.positions) plan.now.added }
-    ensures changes { Changes S.Store store.old store.new result
-        (planned number store.old.clock plan.now.ended plan.now.added) }
-    ensures catalog { store.new.catalog ≡ store.old.catalog }
-    ensures clock { store.new.clock ≡ store.old.clock }
-    ensures none_stored { StaysOnErr S.Store store.old.connection store.new.connection result }
-    ensures usable { WasUsable S.Store store.old.connection store.new.connection }
-    ensures others { SparesOthers S.Store store.old.connection store.new.connection }
-    ensures distinct { IsUsable S.Store store.new.connection
-        → (c : Contents) → StoreRepresents S.Store store.old c
-        → OnOk result (HaveDistinctKeys c.versions) }
-    ensures why { FailsForReason S.Store store.old store.new result (length plan.now.added)
-        (CanMake number store.old.clock plan.now.ended plan.now.added) }
+    ensures stored { MakesPlan S.Store store.old store.new result number plan.now }
 
     // The rows that the plan ends go, and those that it adds come.
     ensures made { (stay : List Version)
@@ -63,7 +45,6 @@ fn apply_plan<S: Alter>(
         table.old table.new) }
     ensures none { OnErr result (HasTableRows table.old.rows table.old table.new) }
     ensures indexed { table.new.indexed ≡ table.old.indexed }
-    ensures named { IfErr result IsStoreRefusal }
 {
     let moment = store.clock();
     let ended = plan.ended.as_slice();
@@ -99,16 +80,7 @@ fn apply_change<S: Alter>(
         × IsPermutation table.old.rows (plan.now.ended ++ stay) }
     requires keys { keys.items ≡ map (key_values table.old.positions) plan.now.added }
     requires before { AreEndedBy store.old.clock ended.old }
-    ensures changes { Changes S.Store store.old store.new result
-        (planned number store.old.clock plan.now.ended plan.now.added) }
-    ensures catalog { store.new.catalog ≡ store.old.catalog }
-    ensures clock { store.new.clock ≡ store.old.clock }
-    ensures none_stored { StaysOnErr S.Store store.old.connection store.new.connection result }
-    ensures usable { WasUsable S.Store store.old.connection store.new.connection }
-    ensures others { SparesOthers S.Store store.old.connection store.new.connection }
-    ensures distinct { IsUsable S.Store store.new.connection
-        → (c : Contents) → StoreRepresents S.Store store.old c
-        → OnOk result (HaveDistinctKeys c.versions) }
+    ensures stored { MakesPlan S.Store store.old store.new result number plan.now }
     ensures made { (stay : List Version)
         → IsPermutation table.old.rows (plan.now.ended ++ stay)
         → OnOk result (HasTableRows (map (begun store.old.clock) plan.now.added ++ stay)
@@ -122,19 +94,14 @@ fn apply_change<S: Alter>(
     ensures column_values { OnOk result (AreOfColumns (closed_at store.old.clock plan.now.ended)) }
     ensures unchanged { OnErr result (ended.new ≡ ended.old) }
     ensures ended_by_clock { AreEndedBy store.old.clock ended.new }
-    ensures named { IfErr result IsStoreRefusal }
-    ensures why { FailsForReason S.Store store.old store.new result (length plan.now.added)
-        (CanMake number store.old.clock plan.now.ended plan.now.added) }
 {
     let count = ended.len();
     ended.close_all(alloc, plan.ended.as_slice(), store.clock())?;
-    match apply_plan(alloc, store, table, number, plan, keys) {
-        Ok(()) => Ok(()),
-        Err(refusal) => {
-            ended.truncate(count);
-            Err(refusal)
-        }
+    let made = apply_plan(alloc, store, table, number, plan, keys);
+    if made.is_err() {
+        ended.truncate(count);
     }
+    made
 }
 
 impl TablesInMemory {
@@ -158,16 +125,7 @@ impl TablesInMemory {
             (plan.now.ended ++ stay) }
         requires keys { AreKeysIn (map rows_by_key self.old.current) number plan.now.added
             keys.items }
-        ensures changes { Changes S.Store store.old store.new result
-            (planned number store.old.clock plan.now.ended plan.now.added) }
-        ensures catalog { store.new.catalog ≡ store.old.catalog }
-        ensures clock { store.new.clock ≡ store.old.clock }
-        ensures none_stored { StaysOnErr S.Store store.old.connection store.new.connection result }
-        ensures usable { WasUsable S.Store store.old.connection store.new.connection }
-        ensures others { SparesOthers S.Store store.old.connection store.new.connection }
-        ensures distinct { IsUsable S.Store store.new.connection
-            → (c : Contents) → StoreRepresents S.Store store.old c
-            → OnOk result (HaveDistinctKeys c.versions) }
+        ensures stored { MakesPlan S.Store store.old store.new result number plan.now }
         ensures made { (stay : List Version)
             → IsPermutation (rows_in (map rows_by_key self.old.current) number)
             (plan.now.ended ++ stay)
@@ -182,9 +140,6 @@ impl TablesInMemory {
             (closed_at store.old.clock plan.now.ended) self.old.ended self.new.ended) }
         ensures unchanged { OnErr result (self.new.ended ≡ self.old.ended) }
         ensures ended_by_clock { AllEndedBy store.new.clock self.new.ended }
-        ensures named { IfErr result IsStoreRefusal }
-        ensures why { FailsForReason S.Store store.old store.new result (length plan.now.added)
-            (CanMake number store.old.clock plan.now.ended plan.now.added) }
     {
         let Some(table) = of_number_mut(&mut self.current, number) else {
             unreachable!()

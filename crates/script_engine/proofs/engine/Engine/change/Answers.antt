@@ -114,8 +114,8 @@ returns-clause-step g c = rw (← c.self.view_is) (λ usable history kept s is.
     (c.in_ok-made.ensures.lawful (last_state history)
     (subst (λ (k : Catalog). IsLawfulState k.tables (last_state history)) (sym judged) (lawful_before g.S.Store history old s known.form kept))
     (subst₂ (λ (k : Catalog) (ts : List RowsByKey). HoldCurrent k.tables (last_state history) ts) (sym judged) (sym tables) (hold_before g.S.Store history old s known.form kept))))
-    (c.in_ok-apply.ensures.distinct usable kept.contents kept.stored)
-    (c.in_ok-apply.ensures.changes usable kept.contents kept.stored).0
+    (c.in_ok-apply.ensures.stored.distinct usable kept.contents kept.stored)
+    (c.in_ok-apply.ensures.stored.changes usable kept.contents kept.stored).0
     c.in_ok-apply.ensures.made c.in_ok-apply.ensures.appended))
 
 pub returns-in_err-apply-clause-step : goal.returns-in_err-apply-clause-step
@@ -132,17 +132,17 @@ returns-in_err-apply-clause-step g c =
     subst (λ (ts : List RowsByKey). IsPlanOf change.action (rows_in ts change.table) plan) tables c.in_ok-made.ensures.plan in
     unchanged_step g.S.Store history old s known.form kept change known.sound known.empty plan of new c.in_err-apply.field-0.0
     (record {
-      stored = (c.in_err-apply.ensures.changes usable kept.contents kept.stored).1;
+      stored = (c.in_err-apply.ensures.stored.changes usable kept.contents kept.stored).1;
       current = current-kept kept.contents change.table old.tables new.tables c.in_err-apply.ensures.none kept.current;
       ended = subst (HaveEnded kept.contents) (sym c.in_err-apply.ensures.unchanged) kept.ended;
     })
-    c.in_err-apply.ensures.named)
+    c.in_err-apply.ensures.stored.named)
 
 pub returns-in_err-apply-clause-kept : goal.returns-in_err-apply-clause-kept
 returns-in_err-apply-clause-kept g c =
     let p = err_from_is_err_and c.from_residual-in_err-apply.result c.from_residual-in_err-apply.ensures.1 in
     rw (p.1, ← c.self.view_is) (λ usable contents has. record {
-      stored = (c.in_err-apply.ensures.changes usable contents has.stored).1;
+      stored = (c.in_err-apply.ensures.stored.changes usable contents has.stored).1;
       current = current-kept contents c.in_ok-change.change.table (map rows_by_key c.self.inside.tables.current) (map rows_by_key c.apply.new.self.current) c.in_err-apply.ensures.none has.current;
       ended = subst (HaveEnded contents) (sym c.in_err-apply.ensures.unchanged) has.ended;
     })
@@ -184,9 +184,9 @@ returns-in_err-apply-clause-over g c =
     let known : IsResolved old.catalog.tables s c.args.word (Ok change) = subst (IsResolved old.catalog.tables s c.args.word) c.in_ok-change.was is in
     let of = c.in_ok-made.ensures.plan in
     refused_over g.S.Store old s new c.in_err-apply.field-0.0
-    (failed_over old.catalog.tables old.clock s c.in_err-apply.field-0.0 (planned_sound old.catalog.tables old.clock s known.form change.action known.sound known.empty of.listed plan of.plans) c.in_err-apply.ensures.named)
-    (rows_memory old new change.table c.apply.ensures.catalog c.apply.ensures.clock c.in_err-apply.ensures.none c.in_err-apply.ensures.unchanged)
-    c.in_err-apply.ensures.none_stored c.apply.ensures.usable)
+    (failed_over old.catalog.tables old.clock s c.in_err-apply.field-0.0 (planned_sound old.catalog.tables old.clock s known.form change.action known.sound known.empty of.listed plan of.plans) c.in_err-apply.ensures.stored.named)
+    (rows_memory old new change.table c.apply.ensures.stored.catalog c.apply.ensures.stored.clock c.in_err-apply.ensures.none c.in_err-apply.ensures.unchanged)
+    c.in_err-apply.ensures.stored.none c.apply.ensures.stored.usable)
 
 pub returns-clause-over : goal.returns-clause-over
 returns-clause-over g c = rw (← c.self.view_is) (λ s is.
@@ -197,8 +197,8 @@ returns-clause-over g c = rw (← c.self.view_is) (λ s is.
     let known : IsResolved old.catalog.tables s c.args.word (Ok change) = subst (IsResolved old.catalog.tables s c.args.word) c.in_ok-change.was is in
     let of = c.in_ok-made.ensures.plan in
     accepted_over g.S.Store old s new c.done.result (planned_sound old.catalog.tables old.clock s known.form change.action known.sound known.empty of.listed plan of.plans)
-    (change_follows old new s known.form (ap (λ (k : Catalog). k.tables) c.apply.ensures.catalog, c.apply.ensures.clock))
-    c.apply.ensures.usable)
+    (change_follows old new s known.form (ap (λ (k : Catalog). k.tables) c.apply.ensures.stored.catalog, c.apply.ensures.stored.clock))
+    c.apply.ensures.stored.usable)
 
 -- ---- 62 is due to a fault
 
@@ -255,5 +255,5 @@ returns-in_err-apply-clause-why g c =
     let sound : IsHealthy (length plan.added) db = subst (λ (n : ℕ). IsHealthy n db) (sym (counted_added g.S.Store history old s kept change plan of)) healthy in
     let apart = keys_of db kept.contents kept.stored.now sound.sound in
     by_fault g.S.Store old.connection new.connection refusal
-    (c.in_err-apply.ensures.why usable kept.contents kept.stored sound
+    (c.in_err-apply.ensures.stored.why usable kept.contents kept.stored sound
     (can_make g.S.Store history old s kept change plan of known.sound known.change apart allowed)) told)

@@ -3,7 +3,7 @@ use Rattle.history_model.specs.Histories.{History}
 use Rattle.history_model.specs.OrdinaryQuery.{VisibleInHistory}
 use Rattle.script_engine.specs.engine.Needed.{HaveRowFrom, IsPrunedAfter, SeesWidth}
 use Rattle.script_engine.specs.engine.Stored.{TablesRepresent}
-use Rattle.script_engine.proofs.engine.needed.looked_up.Given as goal
+use Rattle.script_engine.proofs.engine.looked_up_rows.looked_up.Given as goal
 
 abbrev pub invariant-loop-row : goal.invariant-loop-row
 invariant-loop-row l = record {

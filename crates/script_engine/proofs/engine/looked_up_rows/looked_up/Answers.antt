@@ -10,7 +10,7 @@ use Rattle.script_engine.specs.engine.Needed.{HaveRowFrom, IsPrunedAfter}
 use Rattle.script_engine.specs.engine.Stored.{TablesRepresent}
 use Rattle.script_engine.proofs.Needed.{looked_up_alike}
 use Rattle.script_engine.proofs.Read.{its_read, read_after, read_after_none}
-use Rattle.script_engine.proofs.engine.needed.looked_up.Goals as goal
+use Rattle.script_engine.proofs.engine.looked_up_rows.looked_up.Goals as goal
 
 pub loop-row-init : goal.loop-row-init
 loop-row-init c = record {

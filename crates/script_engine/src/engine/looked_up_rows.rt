@@ -1,0 +1,147 @@
+//! Rows of a later reference of a select, looked up after each of a few rows before it: the
+//! conditions leave a range of keys after each.
+
+ghost use Rattle.std.specs.Prelude.{◌≡◌, IfOk, IfSome, length, min};
+ghost use Rattle.history_model.specs.Histories.{History};
+ghost use Rattle.history_model.specs.OrdinaryQuery.{VisibleInHistory};
+ghost use Rattle.temporal_model.specs.Snapshot.{Equivalent};
+ghost use Rattle.script_engine.specs.engine.Needed.{HaveRowFrom, IsPrunedAfter, SeesWidth};
+ghost use Rattle.script_engine.specs.engine.Stored.{TablesRepresent};
+
+use crate::engine::chained::read_chained;
+use crate::engine::conditions::Conditions;
+use crate::engine::in_memory::TablesInMemory;
+use crate::engine::reading::Access;
+use catalog_core::Cond;
+use coalesce_core::coalesce;
+use period_core::{Memory, PeriodRow, Value, Window};
+use period_keys::{KeyRange, RowConditions, RowRange, range_of_key_after};
+use std::alloc::Global;
+
+/// The most rows after each of which the rows of the next reference are looked up.
+const FEW: usize = 16;
+
+/// The most rows that are looked up before one row more of the earlier ones is looked at. Several
+/// can have one key, so that without it more rows might be copied than the table has.
+const MANY: usize = 4_096;
+
+/// The number of values at these positions of a key, from the first on, that the range fixes.
+fn fixed_values(range: &KeyRange, positions: &[usize]) -> usize
+    ensures { result ≡ min (length positions.now) (length range.now.leading.items) }
+{
+    let mut count = 0;
+    for i in 0..positions.len() {
+        if range.whole_key(&positions[..i + 1]).is_some() {
+            count = i + 1;
+        }
+    }
+    count
+}
+
+/// Whether rows are told by more than others: by more values of the key at these positions, or else
+/// by the columns of a reference, if the others are told by no value of either.
+fn is_narrower(rows: &RowRange, others: &RowRange, positions: &[usize]) -> bool {
+    let of_key = others.positions.as_slice() == positions;
+    let fixed = if of_key {
+        fixed_values(&others.range, positions)
+    } else {
+        0
+    };
+    if rows.positions.as_slice() == positions {
+        return fixed_values(&rows.range, positions) > fixed;
+    }
+    !rows.range.is_all() && of_key && fixed == 0
+}
+
+/// The conditions of a select on a row of its combined rows that have known values from the place
+/// `at` on. The row's values begin at `start`, and are `width` many.
+#[derive(Clone, Copy)]
+struct KnownConditions<'a> {
+    conjuncts: &'a [Cond],
+    known: &'a [Value],
+    at: usize,
+    start: usize,
+    width: usize,
+}
+
+impl RowConditions for KnownConditions<'_> {
+    ghost use Rattle.period_keys.specs.FixedKeys.{IsRangeAfter};
+
+    ghost IsRange = { λ these positions range. IsRangeAfter these.conjuncts.now these.known.now
+        these.at these.start these.width positions range };
+
+    fn range_at(&self, alloc: Global, positions: &[usize]) -> Result<KeyRange, Memory> {
+        let KnownConditions {
+            conjuncts,
+            known,
+            at,
+            start,
+            width,
+        } = *self;
+        range_of_key_after(alloc, conjuncts, known, at, start, width, positions)
+    }
+}
+
+/// Rows with the same snapshots as these, which were looked up so many times. After several times
+/// a row may have been found again.
+fn once_each(alloc: Global, rows: Vec<PeriodRow>, times: usize) -> Result<Vec<PeriodRow>, Memory>
+    ensures { IfOk result (λ once. Equivalent rows.items once.items) }
+{
+    if times > 1 {
+        return coalesce(alloc, rows);
+    }
+    Ok(rows)
+}
+
+/// The rows of a reference's table that are needed in the combined rows that have those of one of
+/// the rows `previous` from the place `at` on: the conditions leave a range of keys after each,
+/// through which they are looked up. None if that is more work than to read them once: if the rows
+/// `previous` are many, or those looked up; if the conditions alone fix as much of a key; or if all
+/// ended versions that the window sees would be read several times.
+pub fn looked_up(
+    alloc: Global,
+    tables: &mut TablesInMemory,
+    conditions: &Conditions,
+    at: usize,
+    previous: &[PeriodRow],
+) -> Result<Option<Vec<PeriodRow>>, Memory>
+    ensures needed { IfOk result (λ found. IfSome found (λ rows. (history : History)
+        → TablesRepresent history tables.old
+        → SeesWidth history conditions.now.reference.now conditions.now.width
+        → IsPrunedAfter (HaveRowFrom previous.now at) conditions.now.conjuncts.now
+        conditions.now.start
+        (λ day. VisibleInHistory history day conditions.now.reference.now) rows.items)) }
+    ensures same { tables.new ≡ tables.old }
+{
+    if previous.len() > FEW {
+        return Ok(None);
+    }
+    let Conditions {
+        reference,
+        conjuncts,
+        start,
+        width,
+    } = *conditions;
+    let alone = tables.rows_left(alloc, reference.table, conditions)?;
+    let mut rows = Vec::new(alloc);
+    for row in previous {
+        let known = row.values.as_slice();
+        let after = KnownConditions {
+            conjuncts,
+            known,
+            at,
+            start,
+            width,
+        };
+        let left = tables.rows_left(alloc, reference.table, &after)?;
+        let positions = tables.key_positions(reference.table);
+        let is_few = rows.len() <= MANY && is_narrower(&left, &alone, positions);
+        let access = Access::of(reference, left);
+        let is_once = reference.window == Window::Now || previous.len() == 1;
+        if !is_few || !is_once && access.ended_key(positions).is_none() {
+            return Ok(None);
+        }
+        read_chained(alloc, tables, &access, conditions, &mut rows)?;
+    }
+    Ok(Some(once_each(alloc, rows, previous.len())?))
+}
