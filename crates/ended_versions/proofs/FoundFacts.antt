@@ -1,11 +1,12 @@
 -- The way through the versions of one hash, and the hashes of more versions and of fewer.
-use Rattle.std.proofs.Common.{◌≡◌, ◌≤ℤ◌, ◌≤◌, ◌<◌, ◌+◌, ◌&&◌, ◌++◌, ◌∷◌, [], ◌∙◌, ℕ, Bool, true, false, cond, not, List, Option, None, Some, append-nil, append_assoc, length, get_or, map, reverse, take, refl, sym, ap, subst, inl, inr, arith}
-use Rattle.std.specs.Prelude.{option_to_list}
-use Rattle.std.specs.List.{All, filter}
-use Rattle.std.proofs.lemmas.Bool.{and_from, and_left, and_right, cases_lt, eq-eqb, ne_eqb, not_from_true, or_from, or_right}
+use Rattle.std.proofs.Common.{◌≡◌, ◌≤ℤ◌, ◌≤◌, ◌<◌, ◌+◌, ◌&&◌, ◌++◌, ◌∷◌, [], ◌∙◌, ℕ, Bool, true, false, cond, not, List, Option, None, Some, append-nil, append_assoc, suc, length, get_or, map, reverse, take, refl, sym, ap, subst, inl, inr, arith}
+use Rattle.std.specs.Prelude.{nat_lt, option_to_list}
+use Rattle.std.specs.List.{All, cons_option, filter, filter_map, slice_get}
+use Rattle.std.proofs.lemmas.Bool.{and_from, and_left, and_parts, and_right, cases_lt, eq-eqb, ltb-true, ne_eqb, not_from_true, or_from, or_right}
 use Rattle.std.proofs.lemmas.Int.{ints}
 use Rattle.std.proofs.lemmas.List.{get_or-map, get_or-take, get_or_default, get_or_append_left, get_or_push, length-append, length-map, length-take-le, length_push, reverse-append, take_all}
 use Rattle.std.proofs.lemmas.List.Elements.{All-map, All-weaker, filter-append, filter_more}
+use Rattle.std.proofs.lemmas.Option.{slice_get_cases}
 use Rattle.period_core.specs.Windows.{window_sees}
 use Rattle.period_core.specs.declared.value.Value.{Value}
 use Rattle.period_core.specs.declared.version.VersionRow.{VersionRow}
@@ -48,6 +49,19 @@ filter-reverse {X} test (x ∷ xs) =
     go false = append-nil (reverse (filter test xs))
 
 -- ---- the versions of one hash
+
+-- if there is a value at each position, there are as many values as positions
+pub has_as_many : (positions : List ℕ) (values : List Value) → has_each positions values ≡ true → length (filter_map (slice_get values) positions) ≡ length positions
+has_as_many [] values each = refl
+has_as_many (p ∷ ps) values each =
+    let (here, more) = and_parts (nat_lt p (length values)) (has_each ps values) each in
+    let below : p < length values = ltb-true p (length values) here in
+    let (same, cases) = slice_get_cases values p in
+    let rest : List Value = filter_map (slice_get values) ps in
+    elim cases [
+      | inl there ↦ ap (λ (o : Option Value). length (cons_option o rest)) there.2 ∙ ap suc (has_as_many ps values more)
+      | inr past ↦ absurd (omega (arith, below, past.0))
+    ]
 
 abbrev pub matches : List ℕ → Window → List Value → VersionRow → Bool
 matches positions window key v = window_sees window v.from v.to && may_have positions key v

@@ -20,7 +20,7 @@ use std::alloc::Global;
 use std::marker::Model;
 
 /// The ended versions of a table, in the order in which they ended, and chains of a first part of
-/// them: by the values at some positions, and by those at others, as `chain` was asked for. Contracts
+/// them: by the values at some positions, by those at others, as `chain` was asked for. Contracts
 /// see the list of all versions, with the values as bytes.
 #[derive(Drop)]
 pub struct EndedVersions {
