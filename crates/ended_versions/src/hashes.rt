@@ -1,9 +1,9 @@
-//! Hashes of values, by their bytes: versions of one key have the same.
+//! Hashes of values, by their bytes: versions with equal values at some positions have the same.
 
 ghost use Rattle.std.specs.Prelude.{◌≡◌, ◌∷◌, [], IfOk, slice_get};
 ghost use Rattle.std.specs.List.{filter_map};
 ghost use Rattle.period_core.specs.Encoding.{encoded};
-ghost use Rattle.ended_versions.specs.Hashes.{hash_byte, hash_bytes, hash_of};
+ghost use Rattle.ended_versions.specs.Hashes.{has_each, hash_byte, hash_bytes, hash_of};
 
 use period_core::{Memory, Value, encode_values};
 use std::alloc::Global;
@@ -59,6 +59,13 @@ pub fn hash_at(alloc: Global, positions: &[usize], values: &[Value]) -> Result<u
         hash = hash_value_at(alloc, hash, values, *position)?;
     }
     Ok(hash)
+}
+
+/// Whether there is a value at each of these positions.
+pub fn has_each(positions: &[usize], values: &[Value]) -> bool
+    ensures { result ≡ has_each positions.now values.now }
+{
+    positions.iter().all(|position| *position < values.len())
 }
 
 /// The hash of values.

@@ -1,7 +1,7 @@
 //! Ended versions, with their values as bytes.
 
-ghost use Rattle.std.specs.Prelude.{◌≡◌, ◌++◌, ◌∷◌, ◌<◌, [], IfOk, List, OnErr, OnOk, length};
-ghost use Rattle.std.specs.Prelude.{reverse, slice_index_or, take};
+ghost use Rattle.std.specs.Prelude.{◌≡◌, ◌++◌, ◌∷◌, ◌+◌, ◌<◌, [], IfOk, List, OnErr, OnOk};
+ghost use Rattle.std.specs.Prelude.{length, reverse, slice_index_or, take, true};
 ghost use Rattle.std.specs.List.{All};
 ghost use Rattle.period_core.specs.Encoding.{IsColumnValue};
 ghost use Rattle.period_core.specs.declared.version.VersionRow.{VersionRow as Version};
@@ -11,7 +11,7 @@ ghost use Rattle.ended_versions.specs.Packed.{AreEndedBy, Hold, PackedVersion, e
 ghost use Rattle.ended_versions.specs.Packed.{seen_through};
 
 use crate::blocks::{VersionEntry, least_with};
-use crate::walk::last_seen;
+use crate::walk::{ends_late, last_seen};
 use period_core::{
     DecodeFault, Memory, Moment, Values, VersionRow, Window, decode_values, encode_values,
 };
@@ -117,6 +117,16 @@ impl PackedVersions {
         ensures held { IfOk result (λ version. All IsColumnValue version.values) }
     {
         unpacked(alloc, self.bytes.as_slice(), &self.entries[place])
+    }
+
+    /// Whether the version at a place ends too early for a window to see it: then the window sees
+    /// none of those before it either.
+    pub fn ends_early(&self, window: &Window, place: usize) -> bool
+        requires { place < length self.now }
+        ensures { (versions : List Version) → Hold self.now versions → result ≡ true
+            → seen_through window.now (take (place + 1) versions) ≡ [] }
+    {
+        !ends_late(window, self.entries[place].to)
     }
 
     /// The version at a place, if the window sees it.

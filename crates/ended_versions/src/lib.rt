@@ -6,13 +6,15 @@
 //! whole blocks that begin too late are passed over (`blocks`, `walk`). `kept` holds the versions,
 //! with their values as bytes.
 //!
-//! Versions of one key have the same hash (`hashes`), and each leads to the one before it of its
-//! hash (`chains`). They are chained before a query that may look for them so, and not as they end:
-//! a change costs no more than in a list without chains. `list` has both; contracts see the list of
-//! versions alone.
+//! Versions with equal values at some positions have the same hash (`hashes`), and each leads to
+//! the one before it of its hash (`chains`). The positions are those of a key, of its first
+//! columns, or of a reference (`chained_values`). Versions are chained before a query that may look
+//! for them so, and not as they end: a change costs no more than in a list without chains. `list`
+//! has both; contracts see the list of versions alone.
 #![tactic(auto)]
 
 mod blocks;
+mod chained_values;
 mod chains;
 mod hashes;
 mod kept;

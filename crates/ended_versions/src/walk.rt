@@ -31,7 +31,7 @@ fn begins_early(window: &Window, from: Moment) -> bool
 
 /// Whether a version that ends at the moment may be seen: of those that end earlier none is, if
 /// it is not.
-fn ends_late(window: &Window, to: Moment) -> bool
+pub fn ends_late(window: &Window, to: Moment) -> bool
     ensures { result ≡ ends_late window.now to }
 {
     match *window {

@@ -16,7 +16,7 @@ use Rattle.std.specs.BTreeMap.{BTreeMap}
 use Rattle.std.specs.BTreeMap.Range.{entries_between, range_contains}
 use Rattle.std.proofs.lemmas.Bool.{and_parts, false≢true}
 use Rattle.std.proofs.lemmas.Cmp.{tied_itself}
-use Rattle.std.proofs.lemmas.List.{drop_more, nil_from_length, take-append-drop, take_at}
+use Rattle.std.proofs.lemmas.List.{drop_more, nil_from_length, take-append-drop, take-take, take_at}
 use Rattle.std.proofs.lemmas.Option.{get_or_from_slice_get, slice_get_within}
 use Rattle.std.proofs.lemmas.List.Elements.{Contains-append_right, filter-append, filter_map-append}
 use Rattle.sql_statements.specs.declared.statement.Comparison.TheVariants as comparison
@@ -414,6 +414,20 @@ whole_key range positions values whole is =
     let begins_so = (and_parts (begins_with range.leading.items key) (is_above range.lower next && is_below range.upper next) is).0 in
     let leads : range.leading.items ≡ take n key = (values_eq range.leading.items (take n key)).0 begins_so in
     sym (leads ∙ take_all n key (omega (arith, whole, at_most positions values)))
+
+-- a key that has a value at each of its first positions has the leading values there
+pub fixed_values : (range : KeyRange) (positions : List ℕ) (values : List Value) (n : ℕ) → n ≤ length range.leading.items → is_in_range range (values_at positions values) ≡ true → length (values_at (take n positions) values) ≡ n
+    → values_at (take n positions) values ≡ take n range.leading.items
+fixed_values range positions values n few is count =
+    let key = values_at positions values in
+    let m = length range.leading.items in
+    let first = values_at (take n positions) values in
+    let rest = values_at (drop n positions) values in
+    let next = slice_get key m in
+    let begins_so = (and_parts (begins_with range.leading.items key) (is_above range.lower next && is_below range.upper next) is).0 in
+    let leads : range.leading.items ≡ take m key = (values_eq range.leading.items (take m key)).0 begins_so in
+    let split : key ≡ first ++ rest = ap (filter_map (slice_get values)) (sym (take-append-drop n positions)) ∙ filter_map-append (slice_get values) (take n positions) (drop n positions) in
+    sym (ap (take n) leads ∙ take-take n m key few ∙ ap (take n) split ∙ take_at first rest n count)
 
 -- ---- the range of all keys
 

@@ -76,7 +76,7 @@ pub use lawful_states::is_lawful;
 pub use plans::{plan_change, prepare_plan};
 pub use positions::positions_of;
 pub use reference_faults::reference_fault;
-pub use row_range::{RowConditions, RowRange};
+pub use row_range::{FixedValues, RowConditions, RowRange};
 pub use table_index::TableIndex;
 pub use table_list::{add_table, tables_of};
 pub use tables::{key_clash, uncovered};

@@ -1,6 +1,7 @@
 //! The rows of a table that conditions leave: those whose values at some positions are in a range.
 
-ghost use Rattle.std.specs.Prelude.{◌≡◌, ◌↔◌, ℕ, IfOk, IfSome, IsTrue, List, true};
+ghost use Rattle.std.specs.Prelude.{◌≡◌, ◌↔◌, ◌<◌, ℕ, IfOk, IfSome, IsSome, IsTrue, List, length};
+ghost use Rattle.std.specs.Prelude.{take, true};
 ghost use Rattle.period_core.specs.declared.version.VersionRow.{VersionRow as Version};
 ghost use Rattle.period_keys.specs.FixedKeys.{IsRangeOf};
 ghost use Rattle.period_keys.specs.Versions.{has_key_in, version_key};
@@ -17,6 +18,15 @@ use std::alloc::Global;
 pub struct RowRange {
     pub positions: Positions,
     pub range: KeyRange,
+}
+
+/// Positions, and the values that rows have there.
+#[derive(Clone, Copy)]
+pub struct FixedValues<'a> {
+    /// The positions, which are the first ones of a range of rows.
+    pub positions: &'a [usize],
+    /// The value at each of them.
+    pub values: &'a [Value],
 }
 
 impl RowRange {
@@ -38,6 +48,32 @@ impl RowRange {
     {
         let positions = Positions::of(alloc, positions)?;
         Ok(RowRange { positions, range })
+    }
+
+    /// The first positions at which each of the rows has a given value, and these values. None if
+    /// there is no such position. A row that lacks a value at one of them can have others there.
+    pub fn fixed(&self) -> Option<FixedValues<'_>>
+        ensures positions { IfSome result (λ fixed. fixed.positions.now
+            ≡ take (length self.now.range.leading.items) self.now.positions) }
+        ensures values { IfSome result (λ fixed. fixed.values.now
+            ≡ take (length self.now.positions) self.now.range.leading.items) }
+        ensures each { IfSome result (λ fixed. (version : Version)
+            → has_key_in self.now.positions self.now.range version ≡ true
+            → length (version_key fixed.positions.now version) ≡ length fixed.positions.now
+            → version_key fixed.positions.now version ≡ fixed.values.now) }
+        ensures found { IsSome result
+            ↔ ((0 < length self.now.positions) × (0 < length self.now.range.leading.items)) }
+    {
+        let positions = self.positions.as_slice();
+        let leading = self.range.leading.as_slice();
+        let count = positions.len().min(leading.len());
+        if count == 0 {
+            return None;
+        }
+        Some(FixedValues {
+            positions: &positions[..count],
+            values: &leading[..count],
+        })
     }
 
     /// The key at these positions, if each of the rows has this one.

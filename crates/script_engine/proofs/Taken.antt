@@ -1,7 +1,7 @@
 -- Versions that are taken of a list: of its parts, in steps, and by a test.
-use Rattle.std.proofs.Common.{◌≡◌, ◌++◌, ◌∷◌, ◌∙◌, [], Bool, List, None, Some, ℕ, append_assoc, append-nil, ap, cond, false, inl, inr, map, refl, reverse, subst, sym, true}
+use Rattle.std.proofs.Common.{◌≡◌, ◌++◌, ◌∷◌, ◌∙◌, [], Bool, List, None, Some, ℕ, append_assoc, append-nil, ap, cond, false, inl, inr, length, map, not, refl, reverse, subst, sym, true}
 use Rattle.std.specs.List.{Contains, filter}
-use Rattle.std.proofs.lemmas.Bool.{eq-eqb, false≢true}
+use Rattle.std.proofs.lemmas.Bool.{eq-eqb, false≢true, not-false, or_parts}
 use Rattle.std.proofs.lemmas.List.{map-append}
 use Rattle.temporal_model.proofs.Members.{Contains-cons_cases, Contains-here, Contains-nil, Contains-there}
 use Rattle.period_core.specs.Windows.{window_sees}
@@ -11,9 +11,9 @@ use Rattle.catalog_core.specs.table.TableWords.{table_of}
 use Rattle.period_keys.specs.Current.{rows_by_key}
 use Rattle.period_keys.specs.TableRows.{TableRows}
 use Rattle.period_keys.specs.Versions.{version_key}
-use Rattle.ended_versions.specs.Hashes.{hash_at, hash_of, shares_hash}
+use Rattle.ended_versions.specs.Hashes.{has_each, hash_at, hash_of, may_have, shares_hash}
 use Rattle.ended_versions.specs.Packed.{seen_through}
-use Rattle.ended_versions.proofs.FoundFacts.{filter-reverse}
+use Rattle.ended_versions.proofs.FoundFacts.{filter-reverse, has_as_many}
 use Rattle.script_engine.specs.declared.engine.reading.Access.{Access}
 use Rattle.script_engine.specs.engine.InMemory.{rows_in}
 use Rattle.script_engine.specs.engine.Reading.{AddRead, AreTaken, IsSeen, MayBeUnread, is_within, left, none, taken}
@@ -123,7 +123,7 @@ add_of_no_table IsTaken MayLack made tables number rows absent = rw (none_there 
 
 -- ---- the ended versions
 
-module _ (access : Access) (positions : List ℕ) (versions : List VersionRow) where
+module _ (access : Access) (versions : List VersionRow) where
   abbrev pub AreSeen : List VersionRow → Type 0
   AreSeen = AreTaken (IsSeen access) (MayBeUnread access (λ (v : VersionRow). ⊥)) (reverse versions)
 
@@ -134,23 +134,27 @@ module _ (access : Access) (positions : List ℕ) (versions : List VersionRow) w
       (taken_by (IsSeen access) (MayBeUnread access (λ (v : VersionRow). ⊥)) (λ (v : VersionRow). window_sees access.window v.from v.to)
       (λ v is. is) (λ v unseen. inl unseen) (reverse versions))
 
-  -- versions that may have a key are read, if each in the range has this one
-  pub key_seen : (key : List Value) → ((v : VersionRow) → is_within access v ≡ true → version_key positions v ≡ key) → AreSeen (reverse (filter (shares_hash positions key) (seen_through access.window versions)))
-  key_seen key whole =
-      subst AreSeen (filter-reverse (shares_hash positions key) (seen_through access.window versions))
+  -- versions that may have a key are read, if each in the range that has values there has this one
+  pub key_seen : (positions : List ℕ) (key : List Value) → ((v : VersionRow) → is_within access v ≡ true → length (version_key positions v) ≡ length positions → version_key positions v ≡ key)
+      → AreSeen (reverse (filter (may_have positions key) (seen_through access.window versions)))
+  key_seen positions key whole =
+      subst AreSeen (filter-reverse (may_have positions key) (seen_through access.window versions))
       (taken_twice (IsSeen access) (MayBeUnread access (λ (v : VersionRow). ⊥)) (λ (v : VersionRow). Unit {0}) (λ (v : VersionRow). is_within access v ≡ false)
       (IsSeen access) (MayBeUnread access (λ (v : VersionRow). ⊥)) (λ v is any. is) (λ v may. may) (λ v outside. inr (inl outside)) all_seen
-      (taken_by (λ (v : VersionRow). Unit {0}) (λ (v : VersionRow). is_within access v ≡ false) (shares_hash positions key) (λ v shares. tt) (λ v other. outside v other (is_within access v) refl)
+      (taken_by (λ (v : VersionRow). Unit {0}) (λ (v : VersionRow). is_within access v ≡ false) (may_have positions key) (λ v may. tt) (λ v other. outside v other (is_within access v) refl)
       (reverse (seen_through access.window versions))))
     where
-      outside : (v : VersionRow) → shares_hash positions key v ≡ false → (b : Bool) → is_within access v ≡ b → b ≡ false
+      outside : (v : VersionRow) → may_have positions key v ≡ false → (b : Bool) → is_within access v ≡ b → b ≡ false
       outside v other false is = refl
-      outside v other true is = absurd (false≢true (sym other ∙ eq-eqb (hash_at positions v) (hash_of key) (ap hash_of (whole v is))))
+      outside v other true is =
+          let (there, apart) = or_parts (not (has_each positions v.values)) (shares_hash positions key v) other in
+          let count : length (version_key positions v) ≡ length positions = has_as_many positions v.values (not-false (has_each positions v.values) there) in
+          absurd (false≢true (sym apart ∙ eq-eqb (hash_at positions v) (hash_of key) (ap hash_of (whole v is count))))
 
 -- of the versions that a window sees, a selection takes some
-pub selected_seen : {R : Type 0} (access : Access) (positions : List ℕ) (IsTaken MayLack : VersionRow → Type 0) (made : VersionRow → R) (versions seen some : List VersionRow) (rows new : List R) →
-    AreSeen access positions versions seen → AreTaken IsTaken MayLack seen some → new ≡ rows ++ map made some → AddRead IsTaken (MayBeUnread access MayLack) made (reverse versions) rows new
-selected_seen access positions IsTaken MayLack made versions seen some rows new are read is = (
+pub selected_seen : {R : Type 0} (access : Access) (IsTaken MayLack : VersionRow → Type 0) (made : VersionRow → R) (versions seen some : List VersionRow) (rows new : List R) →
+    AreSeen access versions seen → AreTaken IsTaken MayLack seen some → new ≡ rows ++ map made some → AddRead IsTaken (MayBeUnread access MayLack) made (reverse versions) rows new
+selected_seen access IsTaken MayLack made versions seen some rows new are read is = (
   some,
   taken_twice (IsSeen access) (MayBeUnread access (λ (v : VersionRow). ⊥)) IsTaken MayLack IsTaken (MayBeUnread access MayLack)
       (λ v sees so. so)

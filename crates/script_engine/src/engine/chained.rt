@@ -1,5 +1,5 @@
-//! Ended versions, chained by their keys before those of one key are read. Chaining is lazy: a
-//! change never pays for it.
+//! Ended versions, chained by their values at some positions before those that have given values
+//! there are read. Chaining is lazy: a change never pays for it.
 
 ghost use Rattle.std.specs.Prelude.{◌≡◌, List, OnOk, map};
 ghost use Rattle.ended_versions.specs.Packed.{Hold};
@@ -15,20 +15,21 @@ use period_core::Memory;
 use std::alloc::Global;
 
 impl TablesInMemory {
-    /// Chains the versions of the table of a number that have ended. Which they are stays the same.
-    fn chain(&mut self, alloc: Global, number: u8) -> Result<(), Memory>
+    /// Chains the versions of the table of a number that have ended, by their values at these
+    /// positions. Which they are stays the same.
+    fn chain(&mut self, alloc: Global, number: u8, positions: &[usize]) -> Result<(), Memory>
         ensures { self.new ≡ self.old }
     {
         let Some(list) = of_number_mut(&mut self.ended, number) else {
             return Ok(());
         };
-        list.chain(alloc)
+        list.chain(alloc, positions)
     }
 }
 
 /// Adds the rows of the versions that an access leaves and a selection takes, of those in memory.
-/// If it is to the ended versions of one key, those of the table are chained first: they stay the
-/// same.
+/// If it is to ended versions that have given values at some positions, those of the table are
+/// chained by their values there first: they stay the same.
 pub fn read_chained<S: Selection>(
     alloc: Global,
     tables: &mut TablesInMemory,
@@ -44,11 +45,8 @@ pub fn read_chained<S: Selection>(
         rows.old.items rows.new.items) }
     ensures same { tables.new ≡ tables.old }
 {
-    let is_of_key = access
-        .ended_key(tables.key_positions(access.table))
-        .is_some();
-    if is_of_key {
-        tables.chain(alloc, access.table)?;
+    if let Some(fixed) = access.ended_values() {
+        tables.chain(alloc, access.table, fixed.positions)?;
     }
     read(alloc, tables, access, selection, rows)
 }

@@ -14,8 +14,8 @@ ghost use Rattle.script_engine.specs.engine.Reading.{positions_in};
 
 use catalog_core::{Catalog, TableDef, of_number};
 use ended_versions::EndedVersions;
-use period_core::{Items, Memory};
-use period_keys::{TableIndex, add_table, positions_of};
+use period_core::Memory;
+use period_keys::{TableIndex, add_table};
 use std::alloc::Global;
 use std::marker::Model;
 
@@ -46,14 +46,6 @@ pub struct VersionTable<'a> {
     pub current: &'a TableIndex,
     /// The versions that have ended.
     pub ended: &'a EndedVersions,
-}
-
-/// No versions of a table, to be found by its key.
-pub fn no_versions(alloc: Global, table: &TableDef) -> Result<EndedVersions, Memory>
-    ensures { IfOk result (λ list. list ≡ []) }
-{
-    let positions = positions_of(alloc, table, table.key.as_slice())?;
-    Ok(EndedVersions::new(alloc, Items::from_vec(positions)))
 }
 
 impl TablesInMemory {
@@ -111,7 +103,7 @@ impl TablesInMemory {
         ensures unchanged { OnErr result (self.new.ended ≡ self.old.ended) }
     {
         let count = self.ended.len();
-        self.ended.push(no_versions(alloc, definition)?)?;
+        self.ended.push(EndedVersions::new(alloc))?;
         match add_table(alloc, catalog, &mut self.current, definition) {
             Ok(()) => Ok(()),
             Err(refused) => {

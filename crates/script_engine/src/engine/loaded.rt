@@ -16,7 +16,7 @@ ghost use Rattle.script_engine.specs.engine.Ended.{SomeEndedAfter, has_ended, is
 ghost use Rattle.script_engine.specs.engine.Faults.{AreConstrained};
 ghost use Rattle.script_engine.specs.engine.InMemory.{AreReadOf, FollowCatalog, HaveCurrentRows};
 
-use crate::engine::in_memory::{TablesInMemory, no_versions};
+use crate::engine::in_memory::TablesInMemory;
 use catalog_core::{Catalog, TableDef, of_number_mut};
 use ended_versions::EndedVersions;
 use period_core::{Items, Memory, Moment, Refusal, VersionRow};
@@ -105,7 +105,7 @@ fn load_table(
     ensures named { IfErr result IsStoreRefusal }
 {
     let mut rows = no_rows(alloc, table)?;
-    let none = no_versions(alloc, table)?;
+    let none = EndedVersions::new(alloc);
     let (current, ended) = split_by_end(alloc, versions.into_vec())?;
     rows.add_each(alloc, current)?;
     let found = load_ended(alloc, none, ended, clock)?;

@@ -138,7 +138,7 @@ pub fn looked_up(
         let is_few = rows.len() <= MANY && is_narrower(&left, &alone, positions);
         let access = Access::of(reference, left);
         let is_once = reference.window == Window::Now || previous.len() == 1;
-        if !is_few || !is_once && access.ended_key(positions).is_none() {
+        if !is_few || !is_once && access.ended_values().is_none() {
             return Ok(None);
         }
         read_chained(alloc, tables, &access, conditions, &mut rows)?;

@@ -2,7 +2,8 @@
 //! are in a range, and of those that have ended the ones that a window sees. A selection takes
 //! some, and makes a row of each.
 
-ghost use Rattle.std.specs.Prelude.{◌≡◌, IfOk, IfSome, List, OnOk, false, map, reverse, true};
+ghost use Rattle.std.specs.Prelude.{◌≡◌, IfOk, IfSome, List, OnOk, false, length, map, reverse};
+ghost use Rattle.std.specs.Prelude.{true};
 ghost use Rattle.ended_versions.specs.Packed.{Hold};
 ghost use Rattle.period_core.specs.declared.version.VersionRow.{VersionRow as Version};
 ghost use Rattle.period_keys.specs.Current.{rows_by_key};
@@ -14,8 +15,8 @@ ghost use Rattle.script_engine.specs.engine.Reading.{versions_in};
 use crate::engine::in_memory::TablesInMemory;
 use catalog_core::resolved::QueryReference;
 use ended_versions::EndedVersions;
-use period_core::{Memory, Value, VersionRow, Window};
-use period_keys::{CurrentRows, RowRange, TableIndex};
+use period_core::{Memory, VersionRow, Window};
+use period_keys::{CurrentRows, FixedValues, RowRange, TableIndex};
 use std::alloc::Global;
 
 /// The versions of a table that a reference of a query has to read, as its conditions say: of those
@@ -44,16 +45,17 @@ impl Access {
         }
     }
 
-    /// The key at these positions, if the ended versions of one key alone have to be read. None if
-    /// the window sees the current versions alone.
-    pub fn ended_key(&self, positions: &[usize]) -> Option<&[Value]>
-        ensures { IfSome result (λ key. (version : Version)
+    /// The values that the ended versions to be read have at some positions, unless they lack one
+    /// there. None if none is fixed, or if the window sees the current versions alone.
+    pub fn ended_values(&self) -> Option<FixedValues<'_>>
+        ensures { IfSome result (λ fixed. (version : Version)
             → has_key_in self.now.rows.positions self.now.rows.range version ≡ true
-            → version_key positions.now version ≡ key.now) }
+            → length (version_key fixed.positions.now version) ≡ length fixed.positions.now
+            → version_key fixed.positions.now version ≡ fixed.values.now) }
     {
         match self.window {
             Window::Now => None,
-            _ => self.rows.whole_key(positions),
+            _ => self.rows.fixed(),
         }
     }
 }
@@ -165,19 +167,18 @@ fn read_current<S: Selection>(
 // ---- ended versions
 
 /// The versions of a list that the window sees, the last to end first, without some that are not in
-/// the range. The key of the table has these positions.
+/// the range.
 fn ended_seen(
     alloc: Global,
     access: &Access,
-    positions: &[usize],
     list: &EndedVersions,
 ) -> Result<Vec<VersionRow>, Memory>
     ensures { (versions : List Version) → Hold list.now versions → IfOk result (λ seen. AreTaken
         (IsSeen access.now) (MayBeUnread access.now (λ version. ⊥))
         (reverse versions) seen.items) }
 {
-    match access.ended_key(positions) {
-        Some(key) => list.seen_of_key(alloc, access.window, positions, key),
+    match access.ended_values() {
+        Some(fixed) => list.seen_of_key(alloc, access.window, fixed.positions, fixed.values),
         None => list.seen(alloc, access.window),
     }
 }
@@ -187,7 +188,6 @@ fn read_list<S: Selection>(
     alloc: Global,
     access: &Access,
     selection: &S,
-    positions: &[usize],
     list: &EndedVersions,
     rows: &mut Vec<S::Row>,
 ) -> Result<(), Memory>
@@ -196,7 +196,7 @@ fn read_list<S: Selection>(
         (MayBeUnread access.now (S.MayLack selection.now)) S.made
         (reverse versions) rows.old.items rows.new.items) }
 {
-    for version in ended_seen(alloc, access, positions, list)? {
+    for version in ended_seen(alloc, access, list)? {
         if !selection.takes(&version) {
             continue;
         }
@@ -226,6 +226,5 @@ pub fn read<S: Selection>(
         return Ok(());
     };
     read_current(alloc, access, selection, table.current, rows)?;
-    let positions = table.current.rows().positions();
-    read_list(alloc, access, selection, positions, table.ended, rows)
+    read_list(alloc, access, selection, table.ended, rows)
 }

@@ -42,12 +42,11 @@ loop-version-preserved-then-not-takes g c =
 pub returns : goal.returns
 returns g c = λ versions hold.
     let access = c.args.access.now in
-    let positions = c.args.positions.now in
     let Taken = g.S.Selection.IsTaken c.args.selection.now in
     let Lack = g.S.Selection.MayLack c.args.selection.now in
     let (done, some, split, read, is) = c.loop-version.invariant in
     let over : c.loop-version.version-iterator.rest.items ≡ [] = nil_from_length c.loop-version.version-iterator.rest.items (grind (arith, c.loop-version.version-iterator.rest.ok, c.in-None.ensures.steps)) in
     let seen : List VersionRow = c.in_ok-version-items.version-items.items in
     let all : done ≡ seen = sym (split ∙ ap (λ (xs : List VersionRow). done ++ xs) over ∙ append-nil done) ∙ c.into_iter-version-iterator.ensures.into_iter_gives.0 in
-    selected_seen access positions Taken Lack g.S.Selection.made versions seen some c.args.rows.now.items c.loop-version.rows.items (c.in_ok-version-items.ensures versions hold)
+    selected_seen access Taken Lack g.S.Selection.made versions seen some c.args.rows.now.items c.loop-version.rows.items (c.in_ok-version-items.ensures versions hold)
     (subst (λ (xs : List VersionRow). AreTaken Taken Lack xs some) all read) is
