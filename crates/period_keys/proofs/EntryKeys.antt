@@ -1,5 +1,5 @@
 -- The keys that a secondary index has in a range: they ascend, and each row whose values are in it has one of them.
-use Rattle.std.proofs.Common.{◌≡◌, ◌&&◌, ◌++◌, ◌∷◌, [], ◌∙◌, ◌<◌, ◌≤◌, ◌+◌, ℕ, zero, suc, Bool, true, false, cond, inl, inr, set, ℤ, List, None, Some, length, map, take, drop, filter, get_or, refl, sym, ap, ap₂, append-nil, arith, subst}
+use Rattle.std.proofs.Common.{◌≡◌, ◌&&◌, ◌++◌, ◌∷◌, [], ◌∙◌, ◌<◌, ◌≤◌, ◌+◌, ℕ, zero, suc, Bool, true, false, cond, inl, inr, set, ℤ, List, None, Some, length, map, take, drop, filter, get_or, refl, sym, ap, ap₂, arith, subst}
 use Rattle.std.specs.Prelude.{IsSome}
 use Rattle.std.specs.BTreeMap.{BTreeMap, get, is_at}
 use Rattle.std.specs.List.{AllByRecursion, Contains, slice_get}
@@ -11,8 +11,8 @@ use Rattle.std.specs.declared.cmp.Ordering.TheVariants.{Less, Equal}
 use Rattle.std.proofs.lemmas.Bool.{and_parts}
 use Rattle.std.proofs.lemmas.Cmp.{tied_itself}
 use Rattle.std.proofs.lemmas.Bool.{cases_lt}
-use Rattle.std.proofs.lemmas.List.{drop_at, get_or-set_other, get_or-set_same, get_or_default, map-append, take_at, take_more}
-use Rattle.std.proofs.lemmas.List.Elements.{Contains-append_cases, Contains-push_cases, filter-append, filter_map-append}
+use Rattle.std.proofs.lemmas.List.{drop_at, get_or-set_other, get_or-set_same, get_or_default, take_at}
+use Rattle.std.proofs.lemmas.List.Elements.{Contains-append_cases, filter_map-append}
 use Rattle.std.proofs.lemmas.List.Kept.{IsStrictlySortedBy-filter}
 use Rattle.std.proofs.lemmas.Map.Views.{btree_map_contains_key_iff}
 use Rattle.std.proofs.lemmas.Option.{slice_get_past}
@@ -30,7 +30,7 @@ use Rattle.period_keys.specs.Ranges.{begins_with, is_above, is_below, is_in_rang
 use Rattle.period_keys.specs.Secondary.{HasEntries, HasMoreEntries, HaveEntries, entries_of, keys_within}
 use Rattle.period_keys.specs.Versions.{begun, has_key_in, version_key}
 use Rattle.period_keys.proofs.Members.{from_map, in_filter, in_map}
-use Rattle.period_keys.proofs.Ranged.{Leads, StopsAt, at_most, first_in, is_from, is_in, none_above, none_below, whole_key}
+use Rattle.period_keys.proofs.Ranged.{Leads, at_most, is_in, none_above, none_below, whole_key}
 
 -- ---- in the order of entries
 
@@ -114,32 +114,15 @@ has_own_key index range key rows v has whole there is =
     (in_map (drop (length index.positions)) (filter (is_in_range range) (entries_of index)) (leading ++ own)
     (in_filter (is_in_range range) (entries_of index) (leading ++ own) (subst (Contains (entries_of index)) entry (has.entries v there)) inside))
 
--- ---- entries that are found one after another
-
-module _ {V : Type 0} (range : KeyRange) where
-  -- the entries in the range, by their keys
-  pub keys_found : (entries : List (List Value × V)) → keys_of (filter (is_in range) entries) ≡ filter (is_in_range range) (keys_of entries)
-  keys_found [] = refl
-  keys_found (e ∷ entries) = by_test (is_in range e) (keys_found entries)
-    where
-      by_test : (t : Bool) → keys_of (filter (is_in range) entries) ≡ filter (is_in_range range) (keys_of entries)
-          → keys_of (cond t (e ∷ filter (is_in range) entries) (filter (is_in range) entries)) ≡ cond t (e.0 ∷ filter (is_in_range range) (keys_of entries)) (filter (is_in_range range) (keys_of entries))
-      by_test true rest = ap (λ (ks : List (List Value)). e.0 ∷ ks) rest
-      by_test false rest = rest
-
-  pub cut_more : (n : ℕ) (seen : List (List Value × V)) (e : List Value × V) → is_in range e ≡ true → map (drop n) (keys_of (filter (is_in range) (seen ++ e ∷ []))) ≡ map (drop n) (keys_of (filter (is_in range) seen)) ++ drop n e.0 ∷ []
-  cut_more n seen e is =
-      ap (λ (es : List (List Value × V)). map (drop n) (keys_of es)) (filter-append (is_in range) seen (e ∷ []) ∙ ap (λ (t : Bool). filter (is_in range) seen ++ cond t (e ∷ []) []) is)
-      ∙ ap (map (drop n)) (map-append (λ (p : List Value × V). p.0) (filter (is_in range) seen) (e ∷ [])) ∙ map-append (drop n) (keys_of (filter (is_in range) seen)) (e.0 ∷ [])
-
-  pub cut_same : (n : ℕ) (seen : List (List Value × V)) (e : List Value × V) → is_in range e ≡ false → map (drop n) (keys_of (filter (is_in range) (seen ++ e ∷ []))) ≡ map (drop n) (keys_of (filter (is_in range) seen))
-  cut_same n seen e is =
-      ap (λ (es : List (List Value × V)). map (drop n) (keys_of es)) (filter-append (is_in range) seen (e ∷ []) ∙ ap (λ (t : Bool). filter (is_in range) seen ++ cond t (e ∷ []) []) is ∙ append-nil (filter (is_in range) seen))
-
-  -- the entries in the range are among those that were seen, if the next one ends the search
-  pub cut_all : (n : ℕ) (entries seen rest : List (List Value × V)) → IsStrictlySortedBy values_cmp (keys_of entries) → filter (is_from range) entries ≡ seen ++ rest → StopsAt range rest
-      → map (drop n) (keys_of (filter (is_in range) seen)) ≡ map (drop n) (filter (is_in_range range) (keys_of entries))
-  cut_all n entries seen rest ordered split stops = ap (map (drop n)) (ap keys_of (sym (first_in range entries seen rest ordered split stops)) ∙ keys_found entries)
+-- keys of the entries in a range, without their first values
+pub cut_keys : {V : Type 0} (range : KeyRange) (n : ℕ) (entries : List (List Value × V)) → map (λ (e : List Value × V). drop n e.0) (filter (is_in range) entries) ≡ map (drop n) (filter (is_in_range range) (keys_of entries))
+cut_keys range n [] = refl
+cut_keys {V} range n (e ∷ entries) = by_test (is_in range e) (cut_keys range n entries)
+  where
+    by_test : (t : Bool) → map (λ (e : List Value × V). drop n e.0) (filter (is_in range) entries) ≡ map (drop n) (filter (is_in_range range) (keys_of entries))
+        → map (λ (e : List Value × V). drop n e.0) (cond t (e ∷ filter (is_in range) entries) (filter (is_in range) entries)) ≡ map (drop n) (cond t (e.0 ∷ filter (is_in_range range) (keys_of entries)) (filter (is_in_range range) (keys_of entries)))
+    by_test true rest = ap (λ (ks : List (List Value)). drop n e.0 ∷ ks) rest
+    by_test false rest = rest
 
 -- ---- after an entry is added
 
@@ -165,15 +148,6 @@ more_after first second third one two = record {
   entry_positions = two.entry_positions ∙ one.entry_positions;
   entries = λ e there. two.entries e (one.entries e there);
 }
-
--- a fact of each of the first elements, and of the next one
-pub seen_more : {X : Type 0} (f : X → List Value) (xs : List X) (i : ℕ) (x : X) (old new : List (List Value)) → i < length xs → x ≡ get_or xs i x → ((e : List Value) → Contains old e → Contains new e) → Contains new (f x)
-    → ((y : X) → Contains (take i xs) y → Contains old (f y)) → (y : X) → Contains (take (i + 1) xs) y → Contains new (f y)
-seen_more {X} f xs i x old new below is kept added seen y there =
-    elim (Contains-push_cases (take i xs) x y (subst (λ (zs : List X). Contains zs y) (take_more xs i x below ∙ ap (λ z. take i xs ++ z ∷ []) (sym is)) there)) [
-      | inl before ↦ kept (f y) (seen y before)
-      | inr same ↦ subst (λ z. Contains new (f z)) same added
-    ]
 
 -- the entries of rows that were there, and of those that were added
 pub seen_both : (old new : SecondaryIndex) (done given rows : List VersionRow) → HasMoreEntries old new → given ≡ rows → ((v : VersionRow) → Contains done v → Contains (entries_of old) (version_key old.entry_positions v))

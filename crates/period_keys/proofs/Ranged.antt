@@ -1,5 +1,5 @@
 -- Keys in a range: in the order of keys they are next to each other, but for some that are passed over.
-use Rattle.std.proofs.Common.{◌≡◌, ◌&&◌, ◌⊎◌, ◌++◌, ◌∷◌, [], ◌∙◌, ◌≤◌, ◌+◌, ℕ, Bool, true, false, cond, List, None, Option, Some, inl, inr, length, not, take, take_all, drop, filter, refl, sym, ap, ap₂, append-nil, arith, subst}
+use Rattle.std.proofs.Common.{◌≡◌, ◌&&◌, ◌⊎◌, ◌++◌, ◌∷◌, [], ◌∙◌, ◌<◌, ◌≤◌, ◌+◌, ℕ, Bool, true, false, cond, List, None, Option, Some, inl, inr, length, not, take, take_all, drop, filter, get_or, refl, sym, ap, ap₂, append-nil, append_assoc, arith, map, subst}
 use Rattle.std.specs.Prelude.{⊤, ◌↔◌, IfSome, IsTrue, MatchOption}
 use Rattle.std.specs.Cmp.{both_ways}
 use Rattle.std.specs.Vec.{vec_len}
@@ -7,16 +7,16 @@ use Rattle.std.specs.Borrow.{Bor}
 use Rattle.std.specs.Option.{option_copied}
 use Rattle.std.specs.List.{AllByRecursion, Contains, cons_option, filter_map, slice_get}
 use Rattle.std.specs.List.Sorted.{IsStrictlySortedBy}
-use Rattle.std.specs.Map.{keys_of, values_of}
+use Rattle.std.specs.Map.{keys_of}
 use Rattle.std.specs.Ordering.{is_eq, is_gt, is_le, is_lt, ordering_reverse, ordering_then}
 use Rattle.std.specs.declared.cmp.Ordering.{Ordering}
 use Rattle.std.specs.declared.cmp.Ordering.TheVariants.{Less, Equal, Greater}
 use Rattle.std.specs.declared.ops.Bound.TheVariants as bound
 use Rattle.std.specs.BTreeMap.{BTreeMap}
-use Rattle.std.specs.BTreeMap.Range.{entries_between, range_contains}
+use Rattle.std.specs.BTreeMap.Range.{range_contains}
 use Rattle.std.proofs.lemmas.Bool.{and_parts, false≢true}
 use Rattle.std.proofs.lemmas.Cmp.{tied_itself}
-use Rattle.std.proofs.lemmas.List.{drop_more, nil_from_length, take-append-drop, take-take, take_at}
+use Rattle.std.proofs.lemmas.List.{drop_more, map-append, nil_from_length, take-append-drop, take-take, take_at, take_more}
 use Rattle.std.proofs.lemmas.Option.{get_or_from_slice_get, slice_get_within}
 use Rattle.std.proofs.lemmas.List.Elements.{Contains-append_right, filter-append, filter_map-append}
 use Rattle.sql_statements.specs.declared.statement.Comparison.TheVariants as comparison
@@ -33,9 +33,9 @@ use Rattle.period_keys.specs.declared.key_range.Limit.TheVariants.{Included, Exc
 use Rattle.period_keys.specs.declared.key_rows.KeyRows.{KeyRows}
 use Rattle.period_keys.specs.Keys.{values_at}
 use Rattle.period_keys.specs.Ranges.{IfLimited, IsLimitOf, begins_with, first_values, is_above, is_at_lower, is_below, is_in_range, is_passed_over, limit_of, limit_values}
-use Rattle.period_keys.specs.Rows.{AreGrouped, HaveKey, rows_of_groups}
+use Rattle.period_keys.specs.Rows.{AreGrouped, HaveKey, rows_of_groups, rows_of_lists}
 use Rattle.period_keys.specs.Versions.{has_key_in}
-use Rattle.period_keys.proofs.Grouped.{Entries, each_alike, rows_in}
+use Rattle.period_keys.proofs.Grouped.{Entries, each_alike, lists_of_groups, rows_in}
 use Rattle.period_keys.proofs.Members.{from_filter}
 
 -- ---- in the order of values
@@ -266,6 +266,40 @@ module _ {V : Type 0} (range : KeyRange) where
           let from : is_from group ≡ true = (from_filter is_from groups group (subst (λ (es : List (List Value × V)). Contains es group) (sym split) (Contains-append_right seen (group ∷ rest) group (Contains-here group rest)))).1 in
           ap (λ (t : Bool). cond t (group ∷ filter is_in rest) (filter is_in rest)) stops.0 ∙ none_after group rest from stops (ordered_behind groups seen group rest ordered split)
 
+-- ---- entries that are found one after another
+
+-- something is picked of each entry in the range, but for the entries that are left
+pub record HasPicked {V X : Type 0} (range : KeyRange) (pick : List Value × V → X) (entries left : List (List Value × V)) (found : List X) : Type 0 where
+  pub seen : List (List Value × V)
+  pub split : entries ≡ seen ++ left
+  pub picked : found ≡ map pick (filter (is_in range) seen)
+
+module _ {V X : Type 0} (range : KeyRange) (pick : List Value × V → X) {entries left rest : List (List Value × V)} {e : List Value × V} where
+  shorter : (seen : List (List Value × V)) → left ≡ e ∷ rest → entries ≡ seen ++ left → entries ≡ (seen ++ e ∷ []) ++ rest
+  shorter seen is split = split ∙ ap (λ (es : List (List Value × V)). seen ++ es) is ∙ sym (append_assoc seen (e ∷ []) rest)
+
+  -- the next entry is in the range
+  pub picked_more : {before after : List X} → left ≡ e ∷ rest → is_in range e ≡ true → after ≡ before ++ pick e ∷ [] → HasPicked range pick entries left before → HasPicked range pick entries rest after
+  picked_more is inside added h = record {
+    seen = h.seen ++ e ∷ [];
+    split = shorter h.seen is h.split;
+    picked = added ∙ ap (λ (xs : List X). xs ++ pick e ∷ []) h.picked ∙ sym (map-append pick (filter (is_in range) h.seen) (e ∷ []))
+        ∙ ap (map pick) (sym (filter-append (is_in range) h.seen (e ∷ []) ∙ ap (λ (t : Bool). filter (is_in range) h.seen ++ cond t (e ∷ []) []) inside));
+  }
+
+  -- the next entry is not in the range
+  pub picked_same : {found : List X} → left ≡ e ∷ rest → is_in range e ≡ false → HasPicked range pick entries left found → HasPicked range pick entries rest found
+  picked_same is outside h = record {
+    seen = h.seen ++ e ∷ [];
+    split = shorter h.seen is h.split;
+    picked = h.picked ∙ ap (map pick) (sym (filter-append (is_in range) h.seen (e ∷ []) ∙ ap (λ (t : Bool). filter (is_in range) h.seen ++ cond t (e ∷ []) []) outside ∙ append-nil (filter (is_in range) h.seen)));
+  }
+
+-- no entry in the range is left, if the next one ends the search
+pub picked_all : {V X : Type 0} (range : KeyRange) (pick : List Value × V → X) (entries : List (List Value × V)) {left rest : List (List Value × V)} {found : List X} → IsStrictlySortedBy values_cmp (keys_of entries) → left ≡ rest → StopsAt range rest
+    → HasPicked range pick (filter (is_from range) entries) left found → found ≡ map pick (filter (is_in range) entries)
+picked_all range pick entries {left} {rest} ordered is stops h = h.picked ∙ ap (map pick) (sym (first_in range entries h.seen left ordered h.split (subst (StopsAt range) (sym is) stops)))
+
 module _ (range : KeyRange) where
   module _ (positions : List ℕ) where
     -- the rows of the groups whose keys are in the range
@@ -282,24 +316,22 @@ module _ (range : KeyRange) where
         by_test true rest = ap (λ (xs : List VersionRow). rows_in group.1 ++ xs) rest
         by_test false rest = rest
 
-    pub found_in : (groups : BTreeMap (List Value) KeyRows) (seen rest : Entries) → AreGrouped positions groups → entries_between values_cmp (bound.Included (first_values range)) bound.Unbounded groups.entries ≡ seen ++ rest
-        → StopsAt range rest → rows_of_groups (filter (is_in range) seen) ≡ filter (has_key_in positions range) (rows_of_groups groups.entries)
-    found_in groups seen rest grouped split stops =
-        ap rows_of_groups (sym (first_in range groups.entries seen rest grouped.ordered split stops)) ∙ sym (ranged_rows groups.entries grouped.keyed)
-
-  -- ---- groups that are found one after another
-
-  pub in_more : (seen : Entries) (group : List Value × KeyRows) → is_in range group ≡ true → values_of (filter (is_in range) (seen ++ group ∷ [])) ≡ values_of (filter (is_in range) seen) ++ group.1 ∷ []
-  in_more seen group is = ap values_of (filter-append (is_in range) seen (group ∷ []) ∙ ap (λ (t : Bool). filter (is_in range) seen ++ cond t (group ∷ []) []) is) ∙ values_more (filter (is_in range) seen)
-    where
-      values_more : (done : Entries) → values_of (done ++ group ∷ []) ≡ values_of done ++ group.1 ∷ []
-      values_more [] = refl
-      values_more (d ∷ done) = ap (λ (xs : List KeyRows). d.1 ∷ xs) (values_more done)
-
-  pub out_more : (seen : Entries) (group : List Value × KeyRows) → is_in range group ≡ false → values_of (filter (is_in range) (seen ++ group ∷ [])) ≡ values_of (filter (is_in range) seen)
-  out_more seen group is = ap values_of (filter-append (is_in range) seen (group ∷ []) ∙ ap (λ (t : Bool). filter (is_in range) seen ++ cond t (group ∷ []) []) is ∙ append-nil (filter (is_in range) seen))
+    pub rows_found : (groups : BTreeMap (List Value) KeyRows) (found : List KeyRows) → AreGrouped positions groups → found ≡ map (λ (group : List Value × KeyRows). group.1) (filter (is_in range) groups.entries)
+        → rows_of_lists found ≡ filter (has_key_in positions range) (rows_of_groups groups.entries)
+    rows_found groups found grouped is = ap rows_of_lists is ∙ lists_of_groups (filter (is_in range) groups.entries) ∙ sym (ranged_rows groups.entries grouped.keyed)
 
 -- ---- rows of which something is known of the values at the positions of the key
+
+-- the values at the first positions and at one more
+pub key_more : (positions : List ℕ) (i : ℕ) (values key new : List Value) (value : Value) → i < length positions → values_at (take i positions) values ≡ key → slice_get values (get_or positions i 0) ≡ Some value → new ≡ key ++ value ∷ []
+    → values_at (take (i + 1) positions) values ≡ new
+key_more positions i values key new value below first is added =
+    let next : List ℕ = get_or positions i 0 ∷ [] in
+    ap (filter_map (slice_get values)) (take_more positions i 0 below)
+    ∙ filter_map-append (slice_get values) (take i positions) next
+    ∙ ap (λ (vs : List Value). vs ++ filter_map (slice_get values) next) first
+    ∙ ap (λ (o : Option Value). key ++ cons_option o []) is
+    ∙ sym added
 
 -- a key begins with its values at the first positions
 begins_by_first : (positions : List ℕ) (leading values : List Value) → values_at (take (length leading) positions) values ≡ leading → values_at positions values ≡ leading ++ values_at (drop (length leading) positions) values

@@ -34,13 +34,6 @@ kept_alike {X} p q (x ∷ xs) agree =
     ap (λ (t : Bool). cond t (x ∷ filter p xs) (filter p xs)) (agree x (Contains-here x xs))
     ∙ ap (λ (more : List X). cond (q x) (x ∷ more) more) (kept_alike p q xs (λ y there. agree y (Contains-there x xs y there)))
 
-pub within_by_key : (rows : RowRange) (table : RowsByKey) (found : List VersionRow) → table.positions ≡ rows.positions → found ≡ rows_within table rows.range → AreRowsWithin rows table.rows found
-within_by_key rows table found same is = record {
-  keep = has_key_in table.positions rows.range;
-  kept = λ v inside. ap (λ (ps : List ℕ). has_key_in ps rows.range v) same ∙ inside;
-  are_kept = is;
-}
-
 pub within_all : (rows : RowRange) (table : RowsByKey) (all : KeyRange) (found : List VersionRow) → ((key : List Value) → is_in_range all key ≡ true) → found ≡ rows_within table all → AreRowsWithin rows table.rows found
 within_all rows table all found has is = record {
   keep = has_key_in table.positions all;

@@ -51,7 +51,7 @@ impl RowRange {
     }
 
     /// The first positions at which each of the rows has a given value, and these values. None if
-    /// there is no such position. A row that lacks a value at one of them can have others there.
+    /// there is no such position. Nothing is said of a row that lacks a value at one of them.
     pub fn fixed(&self) -> Option<FixedValues<'_>>
         ensures positions { IfSome result (λ fixed. fixed.positions.now
             ≡ take (length self.now.range.leading.items) self.now.positions) }

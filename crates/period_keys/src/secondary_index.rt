@@ -1,14 +1,14 @@
 //! A secondary index: the keys of a table's rows by their values at other positions.
 
-ghost use Rattle.std.specs.Prelude.{◌≡◌, ◌≤◌, ◌++◌, ℕ, ℤ, Contains, IfOk, List, OnOk, length, map};
+ghost use Rattle.std.specs.Prelude.{◌≡◌, ◌↔◌, ◌≤◌, ◌++◌, ℕ, ℤ, Contains, IfOk, IfSome, IsSome};
+ghost use Rattle.std.specs.Prelude.{List, OnOk, length, map};
 ghost use Rattle.std.specs.List.Sorted.{IsStrictlySortedBy};
 ghost use Rattle.period_core.specs.Order.{values_cmp};
-ghost use Rattle.period_core.specs.declared.row.PeriodRow.{PeriodRow as Row};
 ghost use Rattle.period_core.specs.declared.version.VersionRow.{VersionRow as Version};
-ghost use Rattle.period_keys.specs.Keys.{key_values, values_at};
+ghost use Rattle.period_keys.specs.Keys.{values_at};
 ghost use Rattle.period_keys.specs.Secondary.{HasEntries, HasMoreEntries, HaveEntries};
 ghost use Rattle.period_keys.specs.Secondary.{entries_of, keys_within};
-ghost use Rattle.period_keys.specs.Versions.{begun, version_key};
+ghost use Rattle.period_keys.specs.Versions.{begun};
 
 use crate::current_rows::CurrentRows;
 use crate::key::Key;
@@ -18,6 +18,34 @@ use period_core::{Items, Memory, PeriodRow, Value, VersionRow};
 use std::alloc::Global;
 use std::collections::BTreeMap;
 use std::ops::Bound;
+
+// A row, with system time or without it.
+trait Valued {
+    ghost use Rattle.std.specs.Prelude.{List};
+    ghost use Rattle.period_core.specs.declared.value.Value.{Value as ColumnValue};
+
+    ghost values: { Self → List ColumnValue };
+
+    // The values of the row.
+    fn values(&self) -> &[Value]
+        ensures { result.now ≡ values self.now };
+}
+
+impl Valued for PeriodRow {
+    ghost values = { λ row. row.values };
+
+    fn values(&self) -> &[Value] {
+        self.values.as_slice()
+    }
+}
+
+impl Valued for VersionRow {
+    ghost values = { λ version. version.values };
+
+    fn values(&self) -> &[Value] {
+        self.values.as_slice()
+    }
+}
 
 /// The keys of a table's current rows by their values at some positions. An entry is a row's values
 /// there, followed by those of its key. It stays when no row has it any more, so that a removal
@@ -52,7 +80,7 @@ impl SecondaryIndex {
             entries: BTreeMap::new(alloc),
         };
         for group in current.groups() {
-            index.add_versions(alloc, group.as_slice())?;
+            index.add_each(alloc, group.as_slice())?;
         }
         Ok(index)
     }
@@ -68,26 +96,15 @@ impl SecondaryIndex {
         Ok(())
     }
 
-    // Adds the entries of versions.
-    fn add_versions(&mut self, alloc: Global, versions: &[VersionRow]) -> Result<(), Memory>
-        ensures more { HasMoreEntries self.old self.new }
-        ensures added { OnOk result ((v : Version) → Contains versions.now v
-            → Contains (entries_of self.new) (version_key self.old.entry_positions v)) }
-    {
-        for version in versions {
-            self.add(alloc, version.values.as_slice())?;
-        }
-        Ok(())
-    }
-
     // Adds the entries of rows.
-    fn add_rows(&mut self, alloc: Global, rows: &[PeriodRow]) -> Result<(), Memory>
+    fn add_each<R: Valued>(&mut self, alloc: Global, rows: &[R]) -> Result<(), Memory>
         ensures more { HasMoreEntries self.old self.new }
-        ensures added { OnOk result ((row : Row) → Contains rows.now row
-            → Contains (entries_of self.new) (key_values self.old.entry_positions row)) }
+        ensures added { OnOk result ((row : R) → Contains rows.now row
+            → Contains (entries_of self.new)
+            (values_at self.old.entry_positions (R.values row))) }
     {
         for row in rows {
-            self.add(alloc, row.values.as_slice())?;
+            self.add(alloc, row.values())?;
         }
         Ok(())
     }
@@ -115,6 +132,43 @@ impl SecondaryIndex {
     }
 }
 
+/// The index by these positions, if there is one.
+pub fn find_index<'a>(
+    indexes: &'a [SecondaryIndex],
+    positions: &[usize],
+) -> Option<&'a SecondaryIndex>
+    ensures found { IfSome result (λ index.
+        Contains indexes.now index.now × (index.now.positions ≡ positions.now)) }
+    ensures there { IsSome result
+        ↔ Contains (map (λ index. index.positions) indexes.now) positions.now }
+{
+    for index in indexes {
+        if index.positions.as_slice() == positions {
+            return Some(index);
+        }
+    }
+    None
+}
+
+/// Adds the index of a table's current rows by these positions, if there is none.
+pub fn add_index(
+    alloc: Global,
+    indexes: &mut Vec<SecondaryIndex>,
+    positions: &[usize],
+    current: &CurrentRows,
+) -> Result<(), Memory>
+    ensures there { OnOk result
+        (Contains (map (λ index. index.positions) indexes.new.items) positions.now) }
+    ensures kept { HaveEntries current.now.positions current.now.rows indexes.old.items
+        → HaveEntries current.now.positions current.now.rows indexes.new.items }
+{
+    if find_index(indexes.as_slice(), positions).is_some() {
+        return Ok(());
+    }
+    indexes.push(SecondaryIndex::of(alloc, positions, current)?)?;
+    Ok(())
+}
+
 /// Adds the entries of rows that begin to each of the indexes.
 pub fn add_entries_to_each(
     alloc: Global,
@@ -129,7 +183,7 @@ pub fn add_entries_to_each(
         → HaveEntries key (map (begun moment) rows.now ++ before) indexes.new) }
 {
     for i in 0..indexes.len() {
-        indexes[i].add_rows(alloc, rows)?;
+        indexes[i].add_each(alloc, rows)?;
     }
     Ok(())
 }

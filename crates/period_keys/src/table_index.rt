@@ -8,7 +8,7 @@ ghost use Rattle.period_keys.specs.Index.{AreAtKeys};
 ghost use Rattle.period_keys.specs.Keys.{key_values};
 ghost use Rattle.period_keys.specs.LookUps.{periods_by};
 ghost use Rattle.period_keys.specs.Rows.{rows_of_lists};
-ghost use Rattle.period_keys.specs.Secondary.{AreRowsWithin, HasEntries};
+ghost use Rattle.period_keys.specs.Secondary.{AreRowsWithin};
 ghost use Rattle.period_keys.specs.TableRows.{AreTouchedKeys, HasMoreIndexes, HasTableRows};
 ghost use Rattle.period_keys.specs.Versions.{begun};
 
@@ -21,7 +21,7 @@ use crate::key_rows::KeyRows;
 use crate::period_indexes::{PeriodIndex, add_to_each, keys_by_each, take_from_each};
 use crate::periods_by_key::PeriodsByKey;
 use crate::row_range::{RowConditions, RowRange};
-use crate::secondary_index::{SecondaryIndex, add_entries_to_each};
+use crate::secondary_index::{SecondaryIndex, add_entries_to_each, add_index, find_index};
 use period_core::{Items, Memory, Moment, PeriodRow, VersionRow};
 use std::alloc::Global;
 use std::marker::Model;
@@ -146,25 +146,10 @@ impl TableIndex {
         ensures { self.new ≡ self.old }
     {
         let positions = rows.positions.as_slice();
-        if self.rows.positions() == positions || self.secondary_at(positions).is_some() {
-            return Ok(());
+        if self.rows.positions() != positions {
+            add_index(alloc, &mut self.secondary, positions, &self.rows)?;
         }
-        let index = SecondaryIndex::of(alloc, positions, &self.rows)?;
-        self.secondary.push(index)?;
         Ok(())
-    }
-
-    // The secondary index by these positions, if it is there.
-    fn secondary_at(&self, positions: &[usize]) -> Option<&SecondaryIndex>
-        ensures { IfSome result (λ index. (index.now.positions ≡ positions.now)
-            × HasEntries self.now.positions self.now.rows index.now) }
-    {
-        for other in self.secondary.as_slice() {
-            if other.positions.as_slice() == positions {
-                return Some(other);
-            }
-        }
-        None
     }
 
     /// The rows of each key of which a row may be in the range, one key after another: by the key
@@ -178,7 +163,7 @@ impl TableIndex {
             return self.rows.groups_within(alloc, &rows.range);
         }
         if rows.range.whole_key(positions).is_some() {
-            if let Some(index) = self.secondary_at(positions) {
+            if let Some(index) = find_index(self.secondary.as_slice(), positions) {
                 let keys = index.keys_within(alloc, &rows.range)?;
                 return self.rows.groups_of_keys(alloc, keys.as_slice());
             }

@@ -1,8 +1,6 @@
-use Rattle.std.proofs.Common.{Some, ◌≡◌, ◌++◌, ◌∷◌, [], ◌∙◌, ℕ, List, length, length-append, take, get_or, sym, ap, subst, arith}
-use Rattle.std.specs.Prelude.{Option}
-use Rattle.std.specs.List.{filter_map, slice_get}
-use Rattle.std.proofs.lemmas.List.{take_more}
-use Rattle.std.proofs.lemmas.List.Elements.{All-more, filter_map-append}
+use Rattle.std.proofs.Common.{Some, ◌++◌, ◌∷◌, [], ◌∙◌, ℕ, List, length, length-append, take, get_or, sym, ap, subst, arith}
+use Rattle.std.specs.List.{slice_get}
+use Rattle.std.proofs.lemmas.List.Elements.{All-more}
 use Rattle.sql_statements.specs.Plain.{plain_condition}
 use Rattle.sql_statements.specs.declared.statement.Comparison.TheVariants.{Equal}
 use Rattle.period_keys.specs.Equations.{both_equal}
@@ -10,6 +8,7 @@ use Rattle.period_core.specs.declared.value.Value.{Value}
 use Rattle.period_keys.specs.FixedKeys.{FixesKey, HasValue, HoldsOfFirst, States}
 use Rattle.period_keys.proofs.Fixed.{states_holds}
 use Rattle.period_keys.proofs.FirstHeld.{all_hold, stopped}
+use Rattle.period_keys.proofs.Ranged.{key_more}
 use Rattle.period_keys.proofs.fixed_keys.leading_values.Goals as goal
 
 pub loop-position-preserved : goal.loop-position-preserved
@@ -20,16 +19,12 @@ loop-position-preserved g c =
     let key : List Value = c.loop-position.leading.items in
     let value : Value = c.in-Some.value.now in
     let (fixes, says, long) = c.loop-position.invariant in
-    let copied : value ≡ c.in_ok-copy.field-0 = sym c.in_ok-copy.ensures in (
+    let added = c.in_ok-push.ensures.items ∙ ap (λ (v : Value). key ++ v ∷ []) c.in_ok-copy.ensures in (
       λ row met.
           let values : List Value = g.T.ColumnTest.values row in
-          ap (filter_map (slice_get values)) (take_more positions i 0 (omega arith))
-          ∙ filter_map-append (slice_get values) (take i positions) (x ∷ [])
-          ∙ ap (λ (k : List Value). k ++ filter_map (slice_get values) (x ∷ [])) (fixes row met)
-          ∙ ap (λ (o : Option Value). key ++ filter_map (λ (x : Option Value). x) (o ∷ []))
+          key_more positions i values key _ value (omega arith) (fixes row met)
           (both_equal (slice_get values x) (Some value) (states_holds (g.T.ColumnTest.Says Equal) (g.T.ColumnTest.passes row) Equal values (λ leaf position value says holds. g.met.T.ColumnTest.compares Equal leaf row position value says holds) (plain_condition c.args.condition.now) x value c.in-Some.ensures met))
-          ∙ ap (λ (v : Value). key ++ v ∷ []) copied
-          ∙ sym c.in_ok-push.ensures.items,
+          added,
       All-more (HasValue (States (g.T.ColumnTest.Says Equal) (plain_condition c.args.condition.now))) positions i 0 (omega arith) says (value, c.in-Some.ensures),
       (let more = length-append key (c.in_ok-copy.field-0 ∷ []) in ap length c.in_ok-push.ensures.items ∙ more ∙ omega (arith, long)),
     )

@@ -1,13 +1,12 @@
-use Rattle.std.proofs.Common.{Some, ◌≡◌, ◌++◌, ◌∷◌, [], ◌∙◌, ℕ, List, length, length-append, take, get_or, sym, ap, arith, subst}
-use Rattle.std.specs.Prelude.{Option}
-use Rattle.std.specs.List.{filter_map, slice_get}
-use Rattle.std.proofs.lemmas.List.{take_more}
-use Rattle.std.proofs.lemmas.List.Elements.{All-more, filter_map-append}
+use Rattle.std.proofs.Common.{Some, ◌++◌, ◌∷◌, [], ◌∙◌, ℕ, List, length, length-append, take, get_or, sym, ap, arith, subst}
+use Rattle.std.specs.List.{slice_get}
+use Rattle.std.proofs.lemmas.List.Elements.{All-more}
 use Rattle.period_core.specs.declared.value.Value.{Value}
 use Rattle.sql_statements.specs.declared.statement.Comparison.TheVariants.{Equal}
 use Rattle.period_keys.specs.Equations.{both_equal}
 use Rattle.period_keys.specs.FixedKeys.{ComparesWithin, FixesKeyWithin, HasValue, HoldsOfFirst, SaysWithin}
 use Rattle.period_keys.proofs.FirstHeld.{all_hold, stopped}
+use Rattle.period_keys.proofs.Ranged.{key_more}
 use Rattle.period_keys.proofs.fixed_keys.leading_values_within.Goals as goal
 
 pub loop-position-preserved : goal.loop-position-preserved
@@ -20,14 +19,9 @@ loop-position-preserved c =
     let value : Value = c.in-Some.value.now in
     let (fixes, say, long) = c.loop-position.invariant in
     let its : ComparesWithin conditions c.args.start c.args.width Equal x value = rw c.in-Some.is at c.in_ok-found.ensures.held in
-    let copied : value ≡ c.in_ok-copy.field-0 = sym c.in_ok-copy.ensures in (
+    let added = c.in_ok-push.ensures.items ∙ ap (λ (v : Value). key ++ v ∷ []) c.in_ok-copy.ensures in (
       λ first values rest before wide met.
-          ap (filter_map (slice_get values)) (take_more positions i 0 (omega arith))
-          ∙ filter_map-append (slice_get values) (take i positions) (x ∷ [])
-          ∙ ap (λ (k : List Value). k ++ filter_map (slice_get values) (x ∷ [])) (fixes first values rest before wide met)
-          ∙ ap (λ (o : Option Value). key ++ filter_map (λ (x : Option Value). x) (o ∷ [])) (both_equal (slice_get values x) (Some value) (its first values rest before wide met))
-          ∙ ap (λ (v : Value). key ++ v ∷ []) copied
-          ∙ sym c.in_ok-push.ensures.items,
+          key_more positions i values key _ value (omega arith) (fixes first values rest before wide met) (both_equal (slice_get values x) (Some value) (its first values rest before wide met)) added,
       λ fits.
           let says : HasValue (SaysWithin conditions c.args.start c.args.width Equal) x = (value, rw c.in-Some.is at (c.in_ok-found.ensures.said fits)) in
           All-more (HasValue (SaysWithin conditions c.args.start c.args.width Equal)) positions i 0 (omega arith) (say fits) says,

@@ -1,16 +1,13 @@
-use Rattle.std.proofs.Common.{◌≡◌, ◌++◌, filter, map}
+use Rattle.std.proofs.Common.{List, map}
 use Rattle.std.specs.Borrow.{Bor}
-use Rattle.std.specs.Map.{values_of}
 use Rattle.std.specs.BTreeMap.Range.{entries_between}
 use Rattle.std.specs.declared.ops.Bound.TheVariants.{Included, Unbounded}
 use Rattle.period_core.specs.Order.{values_cmp}
+use Rattle.period_core.specs.declared.value.Value.{Value}
 use Rattle.period_keys.specs.declared.key_rows.KeyRows.{KeyRows}
 use Rattle.period_keys.specs.Ranges.{first_values}
-use Rattle.period_keys.proofs.Grouped.{Entries}
-use Rattle.period_keys.proofs.Ranged.{is_in}
+use Rattle.period_keys.proofs.Ranged.{HasPicked}
 use Rattle.period_keys.proofs.groups.groups_in.Given as goal
 
 abbrev pub invariant-loop-key : goal.invariant-loop-key
-invariant-loop-key l =
-    (seen : Entries) × (entries_between values_cmp (Included (first_values l.range)) Unbounded l.groups.entries ≡ seen ++ l.key-iterator)
-    × (map (λ (g : Bor KeyRows). g.now) l.found.items ≡ values_of (filter (is_in l.range) seen))
+invariant-loop-key l = HasPicked l.range (λ (group : List Value × KeyRows). group.1) (entries_between values_cmp (Included (first_values l.range)) Unbounded l.groups.entries) l.key-iterator (map (λ (g : Bor KeyRows). g.now) l.found.items)

@@ -1,11 +1,9 @@
-use Rattle.std.proofs.Common.{◌≡◌, ◌++◌, ◌∷◌, [], ◌∙◌, ℕ, List, length, length-append, take, get_or, sym, ap, arith, subst}
-use Rattle.std.specs.Prelude.{Option}
-use Rattle.std.specs.List.{filter_map, slice_get}
-use Rattle.std.proofs.lemmas.List.{take_more}
-use Rattle.std.proofs.lemmas.List.Elements.{All-more, filter_map-append}
+use Rattle.std.proofs.Common.{◌++◌, ◌∷◌, [], ◌∙◌, ℕ, List, length, length-append, take, get_or, sym, ap, arith, subst}
+use Rattle.std.proofs.lemmas.List.Elements.{All-more}
 use Rattle.period_core.specs.declared.value.Value.{Value}
 use Rattle.period_keys.specs.FixedKeys.{FixesKeyAfter, HasValue, HoldsOfFirst, IsValueAfter, SaysAfter}
 use Rattle.period_keys.proofs.FirstHeld.{all_hold, stopped}
+use Rattle.period_keys.proofs.Ranged.{key_more}
 use Rattle.period_keys.proofs.key_after.leading_values_after.Goals as goal
 
 pub loop-position-preserved : goal.loop-position-preserved
@@ -18,14 +16,8 @@ loop-position-preserved c =
     let value : Value = c.in-Some.value.now in
     let (fixes, say, as_many) = c.loop-position.invariant in
     let its : IsValueAfter conditions c.args.known.now c.args.at c.args.start c.args.width x value = rw c.in-Some.is at c.in_ok-found.ensures.held in
-    let copied : value ≡ c.in_ok-copy.field-0 = sym c.in_ok-copy.ensures in (
-      λ first values rest long wide has met.
-          ap (filter_map (slice_get values)) (take_more positions i 0 (omega arith))
-          ∙ filter_map-append (slice_get values) (take i positions) (x ∷ [])
-          ∙ ap (λ (k : List Value). k ++ filter_map (slice_get values) (x ∷ [])) (fixes first values rest long wide has met)
-          ∙ ap (λ (o : Option Value). key ++ filter_map (λ (x : Option Value). x) (o ∷ [])) (its first values rest long wide has met)
-          ∙ ap (λ (v : Value). key ++ v ∷ []) copied
-          ∙ sym c.in_ok-push.ensures.items,
+    let added = c.in_ok-push.ensures.items ∙ ap (λ (v : Value). key ++ v ∷ []) c.in_ok-copy.ensures in (
+      λ first values rest long wide has met. key_more positions i values key _ value (omega arith) (fixes first values rest long wide has met) (its first values rest long wide has met) added,
       λ fits.
           let says : HasValue (SaysAfter conditions c.args.known.now c.args.at c.args.start c.args.width) x = (value, rw c.in-Some.is at (c.in_ok-found.ensures.said fits)) in
           All-more (HasValue (SaysAfter conditions c.args.known.now c.args.at c.args.start c.args.width)) positions i 0 (omega arith) (say fits) says,

@@ -1,7 +1,6 @@
-use Rattle.std.proofs.Common.{◌≡◌, ◌↔◌, ◌+◌, ◌++◌, ◌∷◌, [], ◌∙◌, ℕ, ℤ, List, Bool, Option, true, false, ap, arith, inl, inr, map, subst, sym, take}
+use Rattle.std.proofs.Common.{◌≡◌, ◌↔◌, ◌∙◌, ℕ, ℤ, List, Bool, Option, true, false, arith, map, subst, sym, take}
 use Rattle.std.specs.Prelude.{Contains, IsTrue}
-use Rattle.std.proofs.lemmas.List.{take_all, take_more}
-use Rattle.std.proofs.lemmas.List.Elements.{Contains-push_cases}
+use Rattle.std.proofs.lemmas.List.{take_all}
 use Rattle.catalog_core.specs.declared.table.Reference.{Reference}
 use Rattle.catalog_core.specs.declared.table.TableDef.{TableDef}
 use Rattle.history_model.specs.Histories.{State}
@@ -10,6 +9,7 @@ use Rattle.period_keys.specs.Current.{HoldsCurrent}
 use Rattle.period_keys.specs.Keys.{IsKeyClash, IsLeastOf}
 use Rattle.period_keys.specs.Lawful.{IsCoveredBy, key_positions}
 use Rattle.period_keys.specs.Rows.{RowsByKey}
+use Rattle.period_keys.proofs.Members.{first_more}
 use Rattle.period_keys.proofs.StateFacts.{table_covered, table_uncovered, table_with_clash}
 use Rattle.period_keys.proofs.lawful_states.is_table_lawful.Goals as goal
 
@@ -34,16 +34,11 @@ returns-then-not-branch c = λ state hold held.
     (subst (λ (b : Bool). IsTrue b ↔ IsCoveredBy c.args.definitions.now state c.args.number table here) off (c.in_ok-is_covered.ensures state hold))
 
 pub loop-reference-preserved : goal.loop-reference-preserved
-loop-reference-preserved c = λ state hold reference there.
-    let references : List Reference = c.as_slice-references.result.now in
-    let i : ℕ = c.loop-reference.reference-index in
-    let here : Reference = c.reference-item.result in
-    let more : take (i + 1) references ≡ take i references ++ here ∷ [] = take_more references i here (omega arith) ∙ ap (λ y. take i references ++ y ∷ []) (sym c.reference-item.is) in
+loop-reference-preserved c = λ state hold.
+    let Covered : Reference → Type 0 = IsCoveredBy c.args.definitions.now state c.args.number c.args.table.now in
     let on : c.in_ok-is_covered.field-0 ≡ true = grind (arith, c.if-not-branch.false) in
-    elim (Contains-push_cases (take i references) here reference (subst (λ (list : List Reference). Contains list reference) more there)) [
-      | inl before ↦ c.loop-reference.invariant state hold reference before
-      | inr same ↦ subst (λ (r : Reference). IsCoveredBy c.args.definitions.now state c.args.number c.args.table.now r) same ((c.in_ok-is_covered.ensures state hold).0 on)
-    ]
+    first_more Covered Covered c.as_slice-references.result.now c.loop-reference.reference-index c.reference-item.result c.loop-reference-test.true c.reference-item.is
+    (λ reference before. before) ((c.in_ok-is_covered.ensures state hold).0 on) (c.loop-reference.invariant state hold)
 
 pub returns : goal.returns
 returns c = λ state hold held.

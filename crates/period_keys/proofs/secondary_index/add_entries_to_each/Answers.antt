@@ -4,28 +4,28 @@ use Rattle.period_keys.specs.declared.secondary_index.SecondaryIndex.{SecondaryI
 use Rattle.period_keys.proofs.EntryKeys.{added_more, begun_added, more_kept, more_set}
 use Rattle.period_keys.proofs.secondary_index.add_entries_to_each.Goals as goal
 
-pub returns-in_err-add_rows-clause-kept : goal.returns-in_err-add_rows-clause-kept
-returns-in_err-add_rows-clause-kept c = λ key before have.
+pub returns-in_err-add_each-clause-kept : goal.returns-in_err-add_each-clause-kept
+returns-in_err-add_each-clause-kept c = λ key before have.
     let old : List SecondaryIndex = c.args.indexes.now in
     let now : List SecondaryIndex = c.loop-i.indexes in
     let i : ℕ = c.loop-i.i in
-    let w : SecondaryIndex = c.add_rows.new.self in
+    let w : SecondaryIndex = c.add_each.new.self in
     let inv = c.loop-i.invariant in
     let inside : i < length now = omega arith in
-    more_kept key before old (set now i w) (length-set now i w ∙ inv.size) (more_set old now i c.index-indexes-i.result w inv.size inside c.add_rows.ensures.more inv.more) have
+    more_kept key before old (set now i w) (length-set now i w ∙ inv.size) (more_set old now i c.index-indexes-i.result w inv.size inside c.add_each.ensures.more inv.more) have
 
 pub loop-i-preserved : goal.loop-i-preserved
 loop-i-preserved c =
     let old : List SecondaryIndex = c.args.indexes.now in
     let now : List SecondaryIndex = c.loop-i.indexes in
     let i : ℕ = c.loop-i.i in
-    let w : SecondaryIndex = c.add_rows.new.self in
+    let w : SecondaryIndex = c.add_each.new.self in
     let inv = c.loop-i.invariant in
     let inside : i < length now = omega arith in
     record {
       size = length-set now i w ∙ inv.size;
-      more = more_set old now i c.index-indexes-i.result w inv.size inside c.add_rows.ensures.more inv.more;
-      added = added_more c.args.rows.now old now i c.index-indexes-i.result w inv.size inside inv.more c.in_ok-add_rows.ensures.added inv.added;
+      more = more_set old now i c.index-indexes-i.result w inv.size inside c.add_each.ensures.more inv.more;
+      added = added_more c.args.rows.now old now i c.index-indexes-i.result w inv.size inside inv.more c.in_ok-add_each.ensures.added inv.added;
     }
 
 pub returns-clause-kept : goal.returns-clause-kept

@@ -1,12 +1,13 @@
-use Rattle.std.proofs.Common.{◌≡◌, ◌+◌, ◌++◌, ◌∷◌, [], ◌∙◌, ℕ, List, ap, arith, inl, inr, subst, sym, take}
+use Rattle.std.proofs.Common.{◌≡◌, ◌∙◌, List, arith, subst, sym, take}
 use Rattle.std.specs.Prelude.{Contains}
-use Rattle.std.proofs.lemmas.List.{take_all, take_more}
-use Rattle.std.proofs.lemmas.List.Elements.{Contains-push_cases}
+use Rattle.std.proofs.lemmas.List.{take_all}
 use Rattle.temporal_model.proofs.Members.{Contains-nil}
 use Rattle.catalog_core.specs.declared.table.Reference.{Reference}
+use Rattle.catalog_core.specs.declared.table.TableDef.{TableDef}
 use Rattle.period_keys.specs.Current.{IsParentIndexed}
 use Rattle.period_keys.specs.Lawful.{parent_positions}
 use Rattle.period_keys.specs.TableRows.{TableRows}
+use Rattle.period_keys.proofs.Members.{first_more}
 use Rattle.period_keys.proofs.TableLists.{have_more_refl, have_more_trans, same_count}
 use Rattle.period_keys.proofs.table_list.index_parents.Goals as goal
 
@@ -18,17 +19,12 @@ index_parent-requires c = same_count c.args.tables.now c.loop-reference.tables c
 
 pub loop-reference-preserved : goal.loop-reference-preserved
 loop-reference-preserved c =
-    let references : List Reference = c.as_slice-references.result.now in
-    let i : ℕ = c.loop-reference.reference-index in
-    let here : Reference = c.reference-item.result in
+    let definitions : List TableDef = c.args.definitions.now in
     let new : List TableRows = c.index_parent.new.tables in
-    let more : take (i + 1) references ≡ take i references ++ here ∷ [] = take_more references i here (omega arith) ∙ ap (λ y. take i references ++ y ∷ []) (sym c.reference-item.is) in
     record {
       kept = have_more_trans c.args.tables.now c.loop-reference.tables new c.loop-reference.invariant.kept c.index_parent.ensures.kept;
-      done = λ reference there. elim (Contains-push_cases (take i references) here reference (subst (λ (list : List Reference). Contains list reference) more there)) [
-        | inl before ↦ λ parent is. c.index_parent.ensures.kept.indexed reference.parent (parent_positions parent reference) (c.loop-reference.invariant.done reference before parent is)
-        | inr same ↦ subst (λ (r : Reference). IsParentIndexed c.args.definitions.now r new) same c.in_ok-index_parent.ensures.ok
-      ];
+      done = first_more (λ reference. IsParentIndexed definitions reference c.loop-reference.tables) (λ reference. IsParentIndexed definitions reference new) c.as_slice-references.result.now c.loop-reference.reference-index c.reference-item.result
+          c.loop-reference-test.true c.reference-item.is (λ reference before parent is. c.index_parent.ensures.kept.indexed reference.parent (parent_positions parent reference) (before parent is)) c.in_ok-index_parent.ensures.ok c.loop-reference.invariant.done;
     }
 
 pub returns-clause-ok : goal.returns-clause-ok

@@ -1,51 +1,32 @@
-use Rattle.std.proofs.Common.{◌≡◌, ◌++◌, ◌∷◌, [], ◌∙◌, ℕ, List, append_assoc, ap, drop, filter, length, map, subst, sym}
+use Rattle.std.proofs.Common.{◌≡◌, ◌++◌, ◌∷◌, [], ◌∙◌, ℕ, List, ap, drop, length, subst, sym}
 use Rattle.std.specs.List.Sorted.{IsStrictlySortedBy}
-use Rattle.std.specs.Map.{keys_of}
 use Rattle.period_core.specs.Order.{values_cmp}
 use Rattle.period_core.specs.declared.value.Value.{Value}
-use Rattle.period_keys.proofs.EntryKeys.{cut_all, cut_more, cut_same, keys_ascend}
-use Rattle.period_keys.proofs.Ranged.{is_in}
+use Rattle.period_keys.specs.declared.secondary_index.SecondaryIndex.{SecondaryIndex}
+use Rattle.period_keys.proofs.EntryKeys.{cut_keys, keys_ascend}
+use Rattle.period_keys.proofs.Ranged.{picked_all, picked_more, picked_same}
 use Rattle.period_keys.proofs.secondary_index.SecondaryIndex.keys_within.Goals as goal
 
-abbrev Entries : Type 0
-Entries = List (List Value × Unit {0})
+-- the key of an entry: what comes after its values at the index's positions
+abbrev key_of : SecondaryIndex → List Value × Unit {0} → List Value
+key_of index entry = drop (length index.positions) entry.0
 
 -- an entry in the range
 pub loop-entry-preserved-in_ok-push : goal.loop-entry-preserved-in_ok-push
 loop-entry-preserved-in_ok-push c =
-    let inv = c.loop-entry.invariant in
-    let entry : List Value × Unit {0} = (c.in-Some.entry.now, c.in-Some.field-0-1.now) in
-    let left : c.loop-entry.entry-iterator ≡ entry ∷ c.next.new.self = c.in-Some.ensures.steps in
-    let cut : c.in_ok-after.field-0 ≡ drop (length c.args.self.now.positions) entry.0 = c.in_ok-after.ensures ∙ ap (λ (ps : List ℕ). drop (length ps) entry.0) c.as_slice-count.ensures in
-    let before : List (List Value) = map (drop (length c.args.self.now.positions)) (keys_of (filter (is_in c.args.range.now) inv.seen)) in
-    record {
-      seen = inv.seen ++ entry ∷ [];
-      split = inv.split ∙ ap (λ (es : Entries). inv.seen ++ es) left ∙ sym (append_assoc inv.seen (entry ∷ []) c.next.new.self);
-      found = c.in_ok-push.ensures.items ∙ ap (λ (keys : List (List Value)). keys ++ c.in_ok-after.field-0 ∷ []) inv.found ∙ ap (λ (key : List Value). before ++ key ∷ []) cut
-          ∙ sym (cut_more c.args.range.now (length c.args.self.now.positions) inv.seen entry (sym c.has.ensures ∙ c.if-has.true));
-    }
+    let key : c.in_ok-after.field-0 ≡ drop (length c.args.self.now.positions) c.in-Some.entry.now = c.in_ok-after.ensures ∙ ap (λ (ps : List ℕ). drop (length ps) c.in-Some.entry.now) c.as_slice-count.ensures in
+    picked_more c.args.range.now (key_of c.args.self.now) c.in-Some.ensures.steps (sym c.has.ensures ∙ c.if-has.true)
+    (c.in_ok-push.ensures.items ∙ ap (λ (k : List Value). c.loop-entry.keys.items ++ k ∷ []) key) c.loop-entry.invariant
 
 -- an entry that is passed over
 pub loop-entry-preserved : goal.loop-entry-preserved
-loop-entry-preserved c =
-    let inv = c.loop-entry.invariant in
-    let entry : List Value × Unit {0} = (c.in-Some.entry.now, c.in-Some.field-0-1.now) in
-    let left : c.loop-entry.entry-iterator ≡ entry ∷ c.next.new.self = c.in-Some.ensures.steps in
-    record {
-      seen = inv.seen ++ entry ∷ [];
-      split = inv.split ∙ ap (λ (es : Entries). inv.seen ++ es) left ∙ sym (append_assoc inv.seen (entry ∷ []) c.next.new.self);
-      found = inv.found ∙ sym (cut_same c.args.range.now (length c.args.self.now.positions) inv.seen entry (sym c.has.ensures ∙ c.if-has.false));
-    }
+loop-entry-preserved c = picked_same c.args.range.now (key_of c.args.self.now) c.in-Some.ensures.steps (sym c.has.ensures ∙ c.if-has.false) c.loop-entry.invariant
 
 -- an entry that comes after all in the range
 pub returns-then-not-passes_over-clause-keys : goal.returns-then-not-passes_over-clause-keys
 returns-then-not-passes_over-clause-keys c =
-    let inv = c.loop-entry.invariant in
-    let entry : List Value × Unit {0} = (c.in-Some.entry.now, c.in-Some.field-0-1.now) in
-    let left : c.loop-entry.entry-iterator ≡ entry ∷ c.next.new.self = c.in-Some.ensures.steps in
-    inv.found
-    ∙ cut_all c.args.range.now (length c.args.self.now.positions) c.args.self.now.entries.entries inv.seen (entry ∷ c.next.new.self) c.range-entry-items.ensures.ordered (inv.split ∙ ap (λ (es : Entries). inv.seen ++ es) left)
-    (sym c.has.ensures ∙ c.if-has.false, sym c.passes_over.ensures ∙ c.if-not-passes_over.true)
+    picked_all c.args.range.now (key_of c.args.self.now) c.args.self.now.entries.entries c.range-entry-items.ensures.ordered c.in-Some.ensures.steps (sym c.has.ensures ∙ c.if-has.false, sym c.passes_over.ensures ∙ c.if-not-passes_over.true) c.loop-entry.invariant
+    ∙ cut_keys c.args.range.now (length c.args.self.now.positions) c.args.self.now.entries.entries
 
 pub returns-then-not-passes_over-clause-ascending : goal.returns-then-not-passes_over-clause-ascending
 returns-then-not-passes_over-clause-ascending c whole =
@@ -53,9 +34,7 @@ returns-then-not-passes_over-clause-ascending c whole =
 
 pub returns-clause-keys : goal.returns-clause-keys
 returns-clause-keys c =
-    let inv = c.loop-entry.invariant in
-    inv.found
-    ∙ cut_all c.args.range.now (length c.args.self.now.positions) c.args.self.now.entries.entries inv.seen [] c.range-entry-items.ensures.ordered (inv.split ∙ ap (λ (es : Entries). inv.seen ++ es) c.in-None.ensures.steps.0) tt
+    picked_all c.args.range.now (key_of c.args.self.now) c.args.self.now.entries.entries c.range-entry-items.ensures.ordered c.in-None.ensures.steps.0 tt c.loop-entry.invariant ∙ cut_keys c.args.range.now (length c.args.self.now.positions) c.args.self.now.entries.entries
 
 pub returns-clause-ascending : goal.returns-clause-ascending
 returns-clause-ascending c whole =

@@ -11,11 +11,11 @@ loop-group-preserved c =
     let rows : List VersionRow = c.in-Some.group.now.rows.items in
     let left : rows_of_lists c.loop-group.group-iterator ≡ rows ++ rows_of_lists c.next.new.self = ap rows_of_lists c.in-Some.ensures.steps in
     record {
-      positions = c.add_versions.ensures.more.positions ∙ inv.positions;
-      joined = c.add_versions.ensures.more.entry_positions ∙ inv.joined;
+      positions = c.add_each.ensures.more.positions ∙ inv.positions;
+      joined = c.add_each.ensures.more.entry_positions ∙ inv.joined;
       done = inv.done ++ rows;
       split = inv.split ∙ ap (λ (xs : List VersionRow). inv.done ++ xs) left ∙ sym (append_assoc inv.done rows (rows_of_lists c.next.new.self));
-      seen = seen_both c.loop-group.index c.add_versions.new.self inv.done c.as_slice.result.now rows c.add_versions.ensures.more c.as_slice.ensures inv.seen c.in_ok-add_versions.ensures.added;
+      seen = seen_both c.loop-group.index c.add_each.new.self inv.done c.as_slice.result.now rows c.add_each.ensures.more c.as_slice.ensures inv.seen c.in_ok-add_each.ensures.added;
     }
 
 pub returns-clause-entries : goal.returns-clause-entries

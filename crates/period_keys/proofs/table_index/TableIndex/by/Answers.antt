@@ -1,4 +1,4 @@
-use Rattle.std.proofs.Common.{◌≡◌, ◌<◌, ◌≤◌, ◌∷◌, ◌∙◌, ℕ, List, length, get_or, inl, inr, map, refl, rules, sym, ap, subst, arith}
+use Rattle.std.proofs.Common.{◌≡◌, ◌∷◌, ◌∙◌, ℕ, List, inl, inr, map, refl, rules, sym, subst}
 use Rattle.std.specs.Prelude.{Contains}
 use Rattle.history_model.specs.Versions.{row_of}
 use Rattle.temporal_model.proofs.Members.{Contains-cons_cases, Contains-here, Contains-there}
@@ -8,15 +8,9 @@ use Rattle.period_keys.specs.LookUps.{periods_of_rows}
 use Rattle.period_keys.specs.PeriodIndexes.{positions_by}
 use Rattle.period_keys.specs.Rows.{RowsByKey}
 use Rattle.period_keys.specs.TableRows.{TableRows}
-use Rattle.period_keys.proofs.Members.{from_map, in_map}
+use Rattle.period_keys.proofs.Members.{in_map, none_mapped}
 use Rattle.period_keys.proofs.VersionKeys.{at_keys}
 use Rattle.period_keys.proofs.table_index.TableIndex.by.Goals as goal
-
--- none of the indexes has these positions
-none_by : (items : List PeriodIndex) (positions : List ℕ) (count : ℕ) → length items ≤ count → ((k : ℕ) (d : PeriodIndex) → k < count → (get_or items k d).positions ≡ positions → ⊥) → Contains (map positions_by items) positions → ⊥
-none_by items positions count all none there =
-    let (index, (k, below, is), same) = from_map positions_by items positions there in
-    none k index (omega arith) (ap positions_by is ∙ same)
 
 pub returns-then-eq-clause-found : goal.returns-then-eq-clause-found
 returns-then-eq-clause-found c =
@@ -61,6 +55,6 @@ returns-clause-there c = (
       (subst (λ (t : TableRows). Contains t.indexed c.args.positions.now) (sym c.self.view_is) there) in
       elim (Contains-cons_cases key (map positions_by items) c.args.positions.now of_all) [
         | inl same ↦ (let own : c.positions.result.now ≡ c.args.positions.now = c.positions.ensures ∙ same in absurd (search (rules, c.if-eq.false, c.eq.ensures, own)))
-        | inr other ↦ absurd (none_by items c.args.positions.now c.loop-index.index-index c.loop-index-test.false c.loop-index.invariant other)
+        | inr other ↦ absurd (none_mapped positions_by items c.args.positions.now c.loop-index.index-index c.loop-index-test.false c.loop-index.invariant other)
       ],
 )
