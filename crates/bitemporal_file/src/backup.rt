@@ -87,27 +87,28 @@ pub(crate) fn back_up<S: Alter, C: System>(
 
 // Makes a copy of the store of a connection, which is given back. An `Err` says why the store is
 // not opened: it changes nothing.
-fn back_up_store<S: Alter>(
-    rt: &HostRuntime,
+fn back_up_store<S: Alter, C: System>(
+    system: &C,
     alloc: Global,
     connection: Connection<S>,
     name: &str,
 ) -> Result<(Result<Memory, RunFault>, Connection<S>), (Refusal, Connection<S>)>
     requires { connection.in_transaction ≡ false }
-    ensures copied { IfOk result (λ ended. IsCopied S.Store connection ended.0 ended.1) }
+    ensures copied { IfOk result (λ ended. IsCopied S.Store C.made name.now
+        connection ended.0 ended.1) }
     ensures usable { IfOk result (λ ended. WasUsable S.Store connection ended.1) }
     ensures others { IfOk result (λ ended. SparesOthers S.Store connection ended.1) }
     ensures refused { IfErr result (λ failed.
         RefusesStore S.Store connection failed.0 failed.1) }
 {
     let mut engine = Engine::open(alloc, connection)?;
-    let copied = back_up::<S, HostRuntime>(rt, alloc, &mut engine, name);
+    let copied = back_up::<S, C>(system, alloc, &mut engine, name);
     Ok((copied, engine.close_at_exit()))
 }
 
 // Makes the copy that is asked for. Gives the exit status.
-fn back_up_named<S: Start + Copy, W, E>(
-    rt: &HostRuntime,
+fn back_up_named<S: Start + Copy, C: System, W, E>(
+    system: &C,
     alloc: Global,
     stores: &mut StoreFiles<'_, S>,
     asked: &Backup<'_>,
@@ -115,12 +116,12 @@ fn back_up_named<S: Start + Copy, W, E>(
 ) -> Result<u8, RunFault>
     requires unused { IsUnused report.now }
     requires unopened { stores.old.end ≡ Unopened }
-    ensures backs_up { BacksUp ⟦<Filed<S> as Store>⟧ (filing (image_at S.Start) stores.new.end)
-        result report.now }
+    ensures backs_up { BacksUp ⟦<Filed<S> as Store>⟧ C.made asked.now.file.now
+        (filing (image_at S.Start) stores.new.end) result report.now }
     ensures low { IfOk result (λ status. status ≤ 3) }
 {
     let connection = stores.open_store(asked.store, false, 0)?;
-    match back_up_store(rt, alloc, connection, asked.file) {
+    match back_up_store(system, alloc, connection, asked.file) {
         Ok((copied, connection)) => {
             end_over(stores, asked.store, report, copied, connection)?;
             Ok(0)
@@ -135,8 +136,8 @@ fn back_up_named<S: Start + Copy, W, E>(
 /// Makes a copy of the store that is named in a new file, which has its name only once it is whole:
 /// if there is such a file it stays, and so it does if the copy fails. Gives the exit status:
 /// 0, or 2, and then `err` gets a text that says why.
-pub fn run_backup<S: Start + Copy, W, E: Write>(
-    rt: &HostRuntime,
+pub fn run_backup<S: Start + Copy, C: System, W, E: Write>(
+    system: &C,
     alloc: Global,
     stores: &mut StoreFiles<'_, S>,
     asked: &Backup<'_>,
@@ -147,14 +148,14 @@ pub fn run_backup<S: Start + Copy, W, E: Write>(
     requires unopened { stores.old.end ≡ Unopened }
     ensures status { result ≤ 3 }
 
-    // The store represents the history that it represented, and a file of the bytes that were made
-    // holds a database that represents it too.
+    // The store represents the history that it represented. With 0 the system was given the file's
+    // name and bytes of which a file holds a database that represents it too, and refused neither.
     ensures backs_up { (ended : Result ℕ AnyFault) × ExitsAs ended result err.new.has_failed
         (E.contents err.old.inner) (E.contents err.new.inner)
-        × BacksUp ⟦<Filed<S> as Store>⟧ (filing (image_at S.Start) stores.new.end)
-        ended report.now }
+        × BacksUp ⟦<Filed<S> as Store>⟧ C.made asked.now.file.now
+        (filing (image_at S.Start) stores.new.end) ended report.now }
 {
-    match back_up_named::<S, W, E>(rt, alloc, stores, asked, report) {
+    match back_up_named::<S, C, W, E>(system, alloc, stores, asked, report) {
         Ok(status) => status,
         Err(fault) => end_in(alloc, ProgramName::BitemporalFile, err, fault),
     }

@@ -40,4 +40,5 @@ pub use places::{FileKind, Places};
 pub use program::{is_called, run_file_program};
 pub use reporter::Reporter;
 pub use stores::StoreFiles;
+pub use system::System;
 pub use verification::alike_are_verified_alike;

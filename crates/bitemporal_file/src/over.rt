@@ -5,7 +5,6 @@ ghost use Rattle.std.specs.String.{string_bytes};
 ghost use Rattle.version_store.specs.StoreState.{SparesOthers};
 ghost use Rattle.script_engine.specs.engine.Stored.{WasUsable};
 ghost use Rattle.sqlite_wal.specs.Files.{image_at};
-ghost use Rattle.bitemporal_file.specs.Copies.{AnyFile};
 ghost use Rattle.bitemporal_file.specs.Commands.{IsAnswered, IsAnsweredOver};
 ghost use Rattle.bitemporal_file.specs.Notes.{TellsFirst};
 ghost use Rattle.bitemporal_file.specs.Reporting.{IsUnused};
@@ -216,9 +215,10 @@ pub(crate) fn end_over<S: Start + Copy, T: Drop, W, E>(
 
 /// Runs what is asked for over the store that is named, with `--stop` as the report has it. Gives
 /// the exit status.
-pub(crate) fn run_over<S: Start + Copy, Q: Scripts, R: Read, W: Write, E: Write>(
+pub(crate) fn run_over<S: Start + Copy, C: System, Q: Scripts, R: Read, W: Write, E: Write>(
     alloc: Global,
     stores: &mut StoreFiles<'_, S>,
+    system: &C,
     scripts: &mut ScriptFiles<'_, Q>,
     asked: &Request,
     input: &mut Tracked<R>,
@@ -226,7 +226,7 @@ pub(crate) fn run_over<S: Start + Copy, Q: Scripts, R: Read, W: Write, E: Write>
 ) -> Result<u8, RunFault>
     requires unused { IsUnused reporter.old }
     requires unopened { stores.old.end ≡ Unopened }
-    ensures ran { RunsAsked ⟦<Filed<S> as Store>⟧ AnyFile W.contents E.contents
+    ensures ran { RunsAsked ⟦<Filed<S> as Store>⟧ C.made W.contents E.contents
         (filing (image_at S.Start) stores.new.end)
         (Q.content scripts.old.scripts.now) (λ unread. R.remaining unread.inner)
         (λ unread. failed_in asked.now.files.items unread.has_failed scripts.new.has_failed)
@@ -237,8 +237,8 @@ pub(crate) fn run_over<S: Start + Copy, Q: Scripts, R: Read, W: Write, E: Write>
 {
     let name = asked.store.as_str();
     let connection = stores.open_store(name, true, asked.wait)?;
-    let ran = run_opened::<Filed<S>, HostRuntime, Q, R, W, E>(
-        alloc, connection, stores.rt, scripts, asked, input, reporter,
+    let ran = run_opened::<Filed<S>, C, Q, R, W, E>(
+        alloc, connection, system, scripts, asked, input, reporter,
     );
     match ran {
         Ok((ended, connection)) => {

@@ -7,7 +7,6 @@ ghost use Rattle.command_line.specs.CommandFaults.{IsShown};
 ghost use Rattle.command_line.specs.declared.command.CommandFault.{CommandFault};
 ghost use Rattle.command_line.specs.declared.fault.RunFault.{RunFault};
 ghost use Rattle.command_line.specs.declared.file_command.Request.{Request};
-ghost use Rattle.bitemporal_file.specs.Copies.{AnyFile};
 ghost use Rattle.bitemporal_file.specs.Notes.{TellsFirst};
 ghost use Rattle.bitemporal_file.specs.Program.{AskNothingFor, ExitsNoting, IsAskedBy};
 ghost use Rattle.bitemporal_file.specs.Program.{last_component, names_program};
@@ -23,6 +22,7 @@ use crate::places::Places;
 use crate::read_only::{Held, read_asked};
 use crate::reporter::Reporter;
 use crate::stores::{Filed, StoreFiles};
+use crate::system::System;
 use command_line::{
     ProgramName, Request, RunFault, ScriptFiles, Scripts, Tracked, end_in, parse_request, show,
 };
@@ -88,10 +88,10 @@ fn inspect_asked<S: Start + Copy, W: Write, E: Write>(
 }
 
 // Reports what is asked of the store, or runs what is asked for. Gives the exit status.
-fn run_asked<S: Start + Copy, Q: Scripts + Places, R: Read, W: Write, E: Write>(
+fn run_asked<S: Start + Copy, Q: Scripts + Places + System, R: Read, W: Write, E: Write>(
     alloc: Global,
     stores: &mut StoreFiles<'_, S>,
-    files: &Q,
+    system: &Q,
     scripts: &mut ScriptFiles<'_, Q>,
     asked: &Request,
     input: &mut Tracked<R>,
@@ -100,7 +100,7 @@ fn run_asked<S: Start + Copy, Q: Scripts + Places, R: Read, W: Write, E: Write>(
     requires unused { IsUnused reporter.old }
     requires unopened { stores.old.end ≡ Unopened }
     ensures done { asked.now.reads_only ≡ false
-        → DoesAsked ⟦<Filed<S> as Store>⟧ AnyFile W.contents E.contents
+        → DoesAsked ⟦<Filed<S> as Store>⟧ Q.made W.contents E.contents
         (filing (image_at S.Start) stores.new.end) (Q.content scripts.old.scripts.now)
         (λ unread. R.remaining unread.inner)
         (λ unread. failed_in asked.now.files.items unread.has_failed scripts.new.has_failed)
@@ -108,10 +108,10 @@ fn run_asked<S: Start + Copy, Q: Scripts + Places, R: Read, W: Write, E: Write>(
         reporter.old input.old
         result reporter.new input.new }
     ensures read { asked.now.reads_only ≡ true
-        → DoesAskedReading ⟦<Held as Store>⟧ AnyFile W.contents E.contents
+        → DoesAskedReading ⟦<Held as Store>⟧ Q.made W.contents E.contents
         (reading ⟦<Memory as Disk>⟧
-        (AreHeldBy (Q.leads_to files.now (string_bytes asked.now.store))
-        (Q.content files.now) (Q.may_lack files.now))) (Q.content scripts.old.scripts.now)
+        (AreHeldBy (Q.leads_to system.now (string_bytes asked.now.store))
+        (Q.content system.now) (Q.may_lack system.now))) (Q.content scripts.old.scripts.now)
         (λ unread. R.remaining unread.inner)
         (λ unread. failed_in asked.now.files.items unread.has_failed scripts.new.has_failed)
         asked.now
@@ -121,13 +121,13 @@ fn run_asked<S: Start + Copy, Q: Scripts + Places, R: Read, W: Write, E: Write>(
     ensures told { TellsFirst E.contents reporter.old.notes reporter.new.notes }
 {
     if asked.reads_only {
-        return read_asked(stores.rt, alloc, files, scripts, asked, input, reporter);
+        return read_asked(stores.rt, alloc, system, scripts, asked, input, reporter);
     }
     if let Some(inspection) = inspection_of(asked) {
         return inspect_asked::<S, W, E>(alloc, stores, asked, inspection, reporter);
     }
     reporter.stops = asked.stops;
-    run_over::<S, Q, R, W, E>(alloc, stores, scripts, asked, input, reporter)
+    run_over::<S, Q, Q, R, W, E>(alloc, stores, system, scripts, asked, input, reporter)
 }
 
 /// Does what the words ask for: runs scripts over the store that they name, those in files or a
@@ -136,11 +136,11 @@ fn run_asked<S: Start + Copy, Q: Scripts + Places, R: Read, W: Write, E: Write>(
 /// `bitemporal` does, for all scripts together. With 2 standard error gets a text that says why.
 /// Before that it gets notes of versions that changes ended at the very moment at which they began:
 /// of the first statement that did so as soon as it is run, and at the end how many they are.
-pub fn run_file_program<S: Start + Copy, Q: Scripts + Places, R: Read, W: Write, E: Write>(
+pub fn run_file_program<S: Start + Copy, Q: Scripts + Places + System, R: Read, W: Write, E: Write>(
     alloc: Global,
     words: &[String],
     stores: &mut StoreFiles<'_, S>,
-    files: &Q,
+    system: &Q,
     scripts: &mut ScriptFiles<'_, Q>,
     input: &mut Tracked<R>,
     report: &mut Reporter<W, E>,
@@ -173,16 +173,16 @@ pub fn run_file_program<S: Start + Copy, Q: Scripts + Places, R: Read, W: Write,
         × ExitsNoting left.notes.tally ended result report.new.notes.err.has_failed
         (E.contents report.old.notes.err.inner) (E.contents report.new.notes.err.inner)
         × (asked.reads_only ≡ false
-        → DoesAsked ⟦<Filed<S> as Store>⟧ AnyFile W.contents E.contents
+        → DoesAsked ⟦<Filed<S> as Store>⟧ Q.made W.contents E.contents
         (filing (image_at S.Start) stores.new.end) (Q.content scripts.old.scripts.now)
         (λ unread. R.remaining unread.inner)
         (λ unread. failed_in asked.files.items unread.has_failed scripts.new.has_failed)
         asked report.old input.old ended left input.new)
         × (asked.reads_only ≡ true
-        → DoesAskedReading ⟦<Held as Store>⟧ AnyFile W.contents E.contents
+        → DoesAskedReading ⟦<Held as Store>⟧ Q.made W.contents E.contents
         (reading ⟦<Memory as Disk>⟧
-        (AreHeldBy (Q.leads_to files.now (string_bytes asked.store))
-        (Q.content files.now) (Q.may_lack files.now)))
+        (AreHeldBy (Q.leads_to system.now (string_bytes asked.store))
+        (Q.content system.now) (Q.may_lack system.now)))
         (Q.content scripts.old.scripts.now) (λ unread. R.remaining unread.inner)
         (λ unread. failed_in asked.files.items unread.has_failed scripts.new.has_failed)
         asked report.old input.old
@@ -201,7 +201,7 @@ pub fn run_file_program<S: Start + Copy, Q: Scripts + Places, R: Read, W: Write,
             );
         }
     };
-    let ended = run_asked::<S, Q, R, W, E>(alloc, stores, files, scripts, &asked, input, report);
+    let ended = run_asked::<S, Q, R, W, E>(alloc, stores, system, scripts, &asked, input, report);
     report.notes.add_up(alloc);
     match ended {
         Ok(status) => status,

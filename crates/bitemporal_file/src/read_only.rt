@@ -8,7 +8,6 @@ ghost use Rattle.version_store.specs.StoreState.{SparesOthers};
 ghost use Rattle.script_engine.specs.engine.Stored.{WasUsable};
 ghost use Rattle.script_engine.specs.declared.script.read_only.ReadOnly.{ReadOnly as ReadOnlyModel};
 ghost use Rattle.command_line.specs.declared.fault.RunFault.TheVariants.{Memory as NoMemory};
-ghost use Rattle.bitemporal_file.specs.Copies.{AnyFile};
 ghost use Rattle.bitemporal_file.specs.Notes.{TellsFirst};
 ghost use Rattle.bitemporal_file.specs.ReadOnly.{AreHeldAt, AreHeldBy, FailsToOpenHeld};
 ghost use Rattle.bitemporal_file.specs.ReadOnly.{DoesAskedReading, IsReadFault};
@@ -199,19 +198,19 @@ fn run_reading<S: Alter, C: System, Q: Scripts, R: Read, W: Write, E: Write>(
 
 // Runs what is asked for over the store that is named, of which only the files are read, with
 // `--stop` as the report has it. Gives the exit status.
-fn read_over<Q: Scripts + Places, R: Read, W: Write, E: Write>(
+fn read_over<Q: Scripts + Places + System, R: Read, W: Write, E: Write>(
     rt: &HostRuntime,
     alloc: Global,
-    files: &Q,
+    system: &Q,
     scripts: &mut ScriptFiles<'_, Q>,
     asked: &Request,
     input: &mut Tracked<R>,
     reporter: &mut Reporter<W, E>,
 ) -> Result<u8, RunFault>
     requires unused { IsUnused reporter.old }
-    ensures ran { RunsAskedReading ⟦<Held as Store>⟧ AnyFile W.contents E.contents
-        (reading ⟦<Memory as Disk>⟧ (AreHeldBy (Q.leads_to files.now (string_bytes asked.now.store))
-        (Q.content files.now) (Q.may_lack files.now)))
+    ensures ran { RunsAskedReading ⟦<Held as Store>⟧ Q.made W.contents E.contents
+        (reading ⟦<Memory as Disk>⟧ (AreHeldBy (Q.leads_to system.now (string_bytes asked.now.store))
+        (Q.content system.now) (Q.may_lack system.now)))
         (Q.content scripts.old.scripts.now) (λ unread. R.remaining unread.inner)
         (λ unread. failed_in asked.now.files.items unread.has_failed scripts.new.has_failed)
         asked.now
@@ -219,9 +218,9 @@ fn read_over<Q: Scripts + Places, R: Read, W: Write, E: Write>(
     ensures low { reporter.old.worst ≤ 3 → IfOk result (λ status. status ≤ 3) }
     ensures told { TellsFirst E.contents reporter.old.notes reporter.new.notes }
 {
-    let connection = open_read(rt, alloc, files, asked.store.as_str(), asked.wait)?;
-    let ran = run_reading::<Held, HostRuntime, Q, R, W, E>(
-        alloc, connection, rt, scripts, asked, input, reporter,
+    let connection = open_read(rt, alloc, system, asked.store.as_str(), asked.wait)?;
+    let ran = run_reading::<Held, Q, Q, R, W, E>(
+        alloc, connection, system, scripts, asked, input, reporter,
     );
     match ran {
         Ok((ended, connection)) => {
@@ -270,19 +269,19 @@ fn inspect_read<Q: Scripts + Places, W: Write, E: Write>(
 
 /// Does what is asked for over the store that is named, of which only the files are read. Gives the
 /// exit status.
-pub(crate) fn read_asked<Q: Scripts + Places, R: Read, W: Write, E: Write>(
+pub(crate) fn read_asked<Q: Scripts + Places + System, R: Read, W: Write, E: Write>(
     rt: &HostRuntime,
     alloc: Global,
-    files: &Q,
+    system: &Q,
     scripts: &mut ScriptFiles<'_, Q>,
     asked: &Request,
     input: &mut Tracked<R>,
     reporter: &mut Reporter<W, E>,
 ) -> Result<u8, RunFault>
     requires { IsUnused reporter.old }
-    ensures done { DoesAskedReading ⟦<Held as Store>⟧ AnyFile W.contents E.contents
-        (reading ⟦<Memory as Disk>⟧ (AreHeldBy (Q.leads_to files.now (string_bytes asked.now.store))
-        (Q.content files.now) (Q.may_lack files.now)))
+    ensures done { DoesAskedReading ⟦<Held as Store>⟧ Q.made W.contents E.contents
+        (reading ⟦<Memory as Disk>⟧ (AreHeldBy (Q.leads_to system.now (string_bytes asked.now.store))
+        (Q.content system.now) (Q.may_lack system.now)))
         (Q.content scripts.old.scripts.now) (λ unread. R.remaining unread.inner)
         (λ unread. failed_in asked.now.files.items unread.has_failed scripts.new.has_failed)
         asked.now
@@ -291,8 +290,8 @@ pub(crate) fn read_asked<Q: Scripts + Places, R: Read, W: Write, E: Write>(
     ensures told { TellsFirst E.contents reporter.old.notes reporter.new.notes }
 {
     if let Some(inspection) = inspection_of(asked) {
-        return inspect_read(rt, alloc, files, asked, inspection, reporter);
+        return inspect_read(rt, alloc, system, asked, inspection, reporter);
     }
     reporter.stops = asked.stops;
-    read_over(rt, alloc, files, scripts, asked, input, reporter)
+    read_over(rt, alloc, system, scripts, asked, input, reporter)
 }

@@ -8,7 +8,7 @@ use command_line::RunFault;
 use std::time::Clock;
 
 /// The system, of which contracts know no more than what it was asked for.
-pub(crate) trait System: Clock {
+pub trait System: Clock {
     // A file of that name was made with the bytes.
     ghost made: { List ℕ → List ℕ → Type 0 };
 

@@ -20,6 +20,7 @@ returns-clause-copied g c = record {
       let kept = c.back_up-copied.ensures.same engine_usable history opened in
       let (now, committed) = stands_for_history g.S.Store history c.back_up-copied.new.engine c.close_at_exit.result c.close_at_exit.ensures.same kept in
       (history, refl, now, committed);
+  is_made = c.back_up-copied.ensures.made;
   copied = IfOk-weaker c.back_up-copied.result _ _
       (λ file made usable history stands.
       let engine_usable = subst (IsUsable g.S.Store) c.close_at_exit.ensures.same usable in
