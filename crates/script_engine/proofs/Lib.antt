@@ -6,6 +6,7 @@ mod Answering
 mod ChangeRefusals
 mod ColumnValues
 mod Changed
+mod Unmade
 mod CheckSteps
 mod PieceFacts
 mod PieceSteps

@@ -1,11 +1,19 @@
-use Rattle.std.proofs.Common.{◌++◌, ◌∙◌, ℤ, List, map, subst, subst₂, sym}
+use Rattle.std.proofs.Common.{◌++◌, ◌∙◌, ℤ, Err, List, ap, map, subst, subst₂, sym}
+use Rattle.std.proofs.lemmas.Result.{err_from_is_err_and}
 use Rattle.std.specs.List.Sorted.{IsPermutation}
 use Rattle.period_core.specs.declared.row.PeriodRow.{PeriodRow}
 use Rattle.period_core.specs.declared.version.VersionRow.{VersionRow}
 use Rattle.period_keys.specs.TableRows.{HasTableRows, TableRows}
 use Rattle.period_keys.specs.Versions.{begun}
 use Rattle.script_engine.proofs.Indexed.{parted_rows, taken_after}
+use Rattle.script_engine.proofs.Unmade.{unmade}
 use Rattle.script_engine.proofs.engine.changed.apply_plan.Goals as goal
+
+pub returns-in_err-add_all-clause-stored : goal.returns-in_err-add_all-clause-stored
+returns-in_err-add_all-clause-stored g c =
+    let refused = c.from_residual-in_err-add_all.result in
+    let p = err_from_is_err_and refused c.from_residual-in_err-add_all.ensures.1 in
+    unmade g.S.Store c.args.store.now refused c.args.number c.args.plan.now (p.1 ∙ ap Err p.2)
 
 pub take_all-requires-clause-there : goal.take_all-requires-clause-there
 take_all-requires-clause-there g c =

@@ -66,7 +66,7 @@ pub returns-clause-follow : goal.returns-clause-follow
 returns-clause-follow g c =
     let ts : List TableRows = c.self.inside.current.items in
     let followed = subst (λ (t : TablesState). FollowCatalog c.args.store.now.catalog.tables t.current) (sym c.self.view_is) c.requires.follow in
-    subst (λ (k : Catalog). FollowCatalog k.tables (set ts (c.args.number - 1) c.apply_change.new.table)) (sym c.apply_change.ensures.catalog)
+    subst (λ (k : Catalog). FollowCatalog k.tables (set ts (c.args.number - 1) c.apply_change.new.table)) (sym c.apply_change.ensures.stored.catalog)
     (follow_written c.args.store.now.catalog.tables ts c.args.number c.in-Some.table.now c.apply_change.new.table c.in-Some.ensures.found c.apply_change.ensures.indexed followed)
 
 pub returns-clause-appended : goal.returns-clause-appended
@@ -89,5 +89,5 @@ pub returns-clause-ended_by_clock : goal.returns-clause-ended_by_clock
 returns-clause-ended_by_clock g c =
     let lists : List (List PackedVersion) = c.self.inside.ended.items in
     let before : AllEndedBy c.args.store.now.clock lists = subst (λ (t : TablesState). AllEndedBy c.args.store.now.clock t.ended) (sym c.self.view_is) c.requires.before in
-    subst (λ (m : ℤ). AllEndedBy m (set lists (c.args.number - 1) c.apply_change.new.ended)) (sym c.apply_change.ensures.clock)
+    subst (λ (m : ℤ). AllEndedBy m (set lists (c.args.number - 1) c.apply_change.new.ended)) (sym c.apply_change.ensures.stored.clock)
     (All-set (AreEndedBy c.args.store.now.clock) lists (c.args.number - 1) c.apply_change.new.ended c.apply_change.ensures.ended_by_clock before)
