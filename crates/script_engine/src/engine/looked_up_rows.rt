@@ -25,30 +25,23 @@ const FEW: usize = 16;
 /// can have one key, so that without it more rows might be copied than the table has.
 const MANY: usize = 4_096;
 
-/// The number of values at these positions of a key, from the first on, that the range fixes.
-fn fixed_values(range: &KeyRange, positions: &[usize]) -> usize
-    ensures { result ≡ min (length positions.now) (length range.now.leading.items) }
+/// The number of positions at which each of these rows has a given value.
+fn fixed_count(rows: &RowRange) -> usize
+    ensures { result ≡ min (length rows.now.positions) (length rows.now.range.leading.items) }
 {
-    let mut count = 0;
-    for i in 0..positions.len() {
-        if range.whole_key(&positions[..i + 1]).is_some() {
-            count = i + 1;
-        }
+    match rows.fixed() {
+        Some(fixed) => fixed.positions.len(),
+        None => 0,
     }
-    count
 }
 
 /// Whether rows are told by more than others: by more values of the key at these positions, or else
 /// by the columns of a reference, if the others are told by no value of either.
 fn is_narrower(rows: &RowRange, others: &RowRange, positions: &[usize]) -> bool {
     let of_key = others.positions.as_slice() == positions;
-    let fixed = if of_key {
-        fixed_values(&others.range, positions)
-    } else {
-        0
-    };
+    let fixed = if of_key { fixed_count(others) } else { 0 };
     if rows.positions.as_slice() == positions {
-        return fixed_values(&rows.range, positions) > fixed;
+        return fixed_count(rows) > fixed;
     }
     !rows.range.is_all() && of_key && fixed == 0
 }
