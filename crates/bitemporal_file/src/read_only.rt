@@ -209,7 +209,8 @@ fn read_over<Q: Scripts + Places + System, R: Read, W: Write, E: Write>(
 ) -> Result<u8, RunFault>
     requires unused { IsUnused reporter.old }
     ensures ran { RunsAskedReading ⟦<Held as Store>⟧ Q.made W.contents E.contents
-        (reading ⟦<Memory as Disk>⟧ (AreHeldBy (Q.leads_to system.now (string_bytes asked.now.store))
+        (reading ⟦<Memory as Disk>⟧
+        (AreHeldBy (Q.leads_to system.now (string_bytes asked.now.store))
         (Q.content system.now) (Q.may_lack system.now)))
         (Q.content scripts.old.scripts.now) (λ unread. R.remaining unread.inner)
         (λ unread. failed_in asked.now.files.items unread.has_failed scripts.new.has_failed)
@@ -280,7 +281,8 @@ pub(crate) fn read_asked<Q: Scripts + Places + System, R: Read, W: Write, E: Wri
 ) -> Result<u8, RunFault>
     requires { IsUnused reporter.old }
     ensures done { DoesAskedReading ⟦<Held as Store>⟧ Q.made W.contents E.contents
-        (reading ⟦<Memory as Disk>⟧ (AreHeldBy (Q.leads_to system.now (string_bytes asked.now.store))
+        (reading ⟦<Memory as Disk>⟧
+        (AreHeldBy (Q.leads_to system.now (string_bytes asked.now.store))
         (Q.content system.now) (Q.may_lack system.now)))
         (Q.content scripts.old.scripts.now) (λ unread. R.remaining unread.inner)
         (λ unread. failed_in asked.now.files.items unread.has_failed scripts.new.has_failed)

@@ -10,7 +10,7 @@ use Rattle.version_store.specs.StoreState.{Changes, FailsForReason, IsStoreRefus
 use Rattle.version_store.specs.StoreState.{SparesOthers, StaysOnErr, StoreRepresents, StoreState}
 use Rattle.script_engine.specs.engine.Stored.{WasUsable}
 
--- what a plan says of the table of a number is made at the clock on Ok, and nothing on Err
+-- a plan of the table of a number is made at the clock on Ok, and nothing of it on Err
 pub record MakesPlan {S X : Type 0} (g : Ghosts S) (old new : StoreState S)
     (result : Result X Refusal) (number : ℕ) (plan : Plan) : Type 0 where
   pub changes : Changes g old new result (planned number old.clock plan.ended plan.added)
