@@ -9,7 +9,7 @@ use std::time::Clock;
 
 /// The system, of which contracts know no more than what it was asked for.
 pub trait System: Clock {
-    // A file of that name was made with the bytes.
+    /// Whether a file of that name was made with the bytes.
     ghost made: { List ℕ → List ℕ → Type 0 };
 
     /// Makes a file of that name with the bytes. If there is one, it stays.
