@@ -30,7 +30,8 @@ use Rattle.period_keys.specs.Ranges.{begins_with, is_above, is_below, is_in_rang
 use Rattle.period_keys.specs.Secondary.{HasEntries, HasMoreEntries, HaveEntries, entries_of, keys_within}
 use Rattle.period_keys.specs.Versions.{begun, has_key_in, version_key}
 use Rattle.period_keys.proofs.Members.{from_map, in_filter, in_map}
-use Rattle.period_keys.proofs.Ranged.{Leads, at_most, is_in, none_above, none_below, whole_key}
+use Rattle.period_keys.proofs.RangeKeys.{at_most, none_above, none_below, whole_key}
+use Rattle.period_keys.proofs.Ranged.{Leads, is_in}
 
 -- ---- in the order of entries
 

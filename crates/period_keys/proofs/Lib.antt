@@ -30,6 +30,9 @@ pub mod KeyAfter
 pub mod PlanParts
 pub mod FaultFacts
 pub mod Ranged
+pub mod Picked
+pub mod RangeKeys
+pub mod Limits
 pub mod ReferenceFacts
 pub mod TableLists
 pub mod Earlier

@@ -8,7 +8,7 @@ use Rattle.period_core.specs.declared.value.Value.{Value}
 use Rattle.period_keys.specs.FixedKeys.{FixesKey, HasValue, HoldsOfFirst, States}
 use Rattle.period_keys.proofs.Fixed.{states_holds}
 use Rattle.period_keys.proofs.FirstHeld.{all_hold, stopped}
-use Rattle.period_keys.proofs.Ranged.{key_more}
+use Rattle.period_keys.proofs.RangeKeys.{key_more}
 use Rattle.period_keys.proofs.fixed_keys.leading_values.Goals as goal
 
 pub loop-position-preserved : goal.loop-position-preserved

@@ -6,7 +6,7 @@ use Rattle.sql_statements.specs.declared.statement.Comparison.TheVariants.{Equal
 use Rattle.period_keys.specs.Equations.{both_equal}
 use Rattle.period_keys.specs.FixedKeys.{ComparesWithin, FixesKeyWithin, HasValue, HoldsOfFirst, SaysWithin}
 use Rattle.period_keys.proofs.FirstHeld.{all_hold, stopped}
-use Rattle.period_keys.proofs.Ranged.{key_more}
+use Rattle.period_keys.proofs.RangeKeys.{key_more}
 use Rattle.period_keys.proofs.fixed_keys.leading_values_within.Goals as goal
 
 pub loop-position-preserved : goal.loop-position-preserved

@@ -1,7 +1,7 @@
 use Rattle.sql_statements.specs.Plain.{plain_condition}
 use Rattle.period_keys.specs.FixedKeys.{States}
 use Rattle.period_keys.proofs.PlanParts.{if_ok}
-use Rattle.period_keys.proofs.Ranged.{limit_said}
+use Rattle.period_keys.proofs.Limits.{limit_said}
 use Rattle.period_keys.specs.Ranges.{IsLimitOf}
 use Rattle.std.proofs.Common.{sym, subst}
 use Rattle.period_keys.proofs.fixed_keys.limit_of.Goals as goal

@@ -2,7 +2,7 @@ use Rattle.std.proofs.Common.{sym, subst}
 use Rattle.period_keys.specs.FixedKeys.{ComparesWithin, SaysWithin}
 use Rattle.period_keys.specs.Ranges.{IfLimited, IsLimitOf}
 use Rattle.period_keys.proofs.PlanParts.{if_ok}
-use Rattle.period_keys.proofs.Ranged.{limit_held, limit_said}
+use Rattle.period_keys.proofs.Limits.{limit_held, limit_said}
 use Rattle.period_keys.proofs.fixed_keys.limit_within.Goals as goal
 
 pub returns-clause-held : goal.returns-clause-held

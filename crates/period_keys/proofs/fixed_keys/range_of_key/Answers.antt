@@ -13,7 +13,8 @@ use Rattle.period_keys.specs.FixedKeys.{HasValue, HoldsOfFirst, States}
 use Rattle.period_keys.specs.Keys.{values_at}
 use Rattle.period_keys.specs.Ranges.{IsLimitOf}
 use Rattle.period_keys.proofs.Fixed.{states_holds}
-use Rattle.period_keys.proofs.Ranged.{above_limited, below_limited, if_limited, in_range, led_in_range, said_limited}
+use Rattle.period_keys.proofs.Limits.{above_limited, below_limited, if_limited, said_limited}
+use Rattle.period_keys.proofs.RangeKeys.{in_range, led_in_range}
 use Rattle.period_keys.proofs.fixed_keys.range_of_key.Goals as goal
 
 pub returns-in_default-clause-within : goal.returns-in_default-clause-within

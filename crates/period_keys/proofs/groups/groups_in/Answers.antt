@@ -6,7 +6,7 @@ use Rattle.std.proofs.lemmas.List.{map-append}
 use Rattle.period_core.specs.Order.{values_cmp}
 use Rattle.period_core.specs.declared.value.Value.{Value}
 use Rattle.period_keys.specs.declared.key_rows.KeyRows.{KeyRows}
-use Rattle.period_keys.proofs.Ranged.{picked_all, picked_more, picked_same, rows_found}
+use Rattle.period_keys.proofs.Picked.{picked_all, picked_more, picked_same, rows_found}
 use Rattle.period_keys.proofs.groups.groups_in.Goals as goal
 
 abbrev now_of : Bor KeyRows → KeyRows

@@ -6,7 +6,7 @@ use Rattle.period_core.specs.Order.{values_cmp}
 use Rattle.period_core.specs.declared.value.Value.{Value}
 use Rattle.period_keys.specs.declared.key_rows.KeyRows.{KeyRows}
 use Rattle.period_keys.specs.Ranges.{first_values}
-use Rattle.period_keys.proofs.Ranged.{HasPicked}
+use Rattle.period_keys.proofs.Picked.{HasPicked}
 use Rattle.period_keys.proofs.groups.groups_in.Given as goal
 
 abbrev pub invariant-loop-key : goal.invariant-loop-key

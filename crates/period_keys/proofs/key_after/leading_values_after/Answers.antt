@@ -3,7 +3,7 @@ use Rattle.std.proofs.lemmas.List.Elements.{All-more}
 use Rattle.period_core.specs.declared.value.Value.{Value}
 use Rattle.period_keys.specs.FixedKeys.{FixesKeyAfter, HasValue, HoldsOfFirst, IsValueAfter, SaysAfter}
 use Rattle.period_keys.proofs.FirstHeld.{all_hold, stopped}
-use Rattle.period_keys.proofs.Ranged.{key_more}
+use Rattle.period_keys.proofs.RangeKeys.{key_more}
 use Rattle.period_keys.proofs.key_after.leading_values_after.Goals as goal
 
 pub loop-position-preserved : goal.loop-position-preserved

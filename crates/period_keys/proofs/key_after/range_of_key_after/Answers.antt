@@ -2,7 +2,7 @@ use Rattle.std.proofs.Common.{◌≡◌, length, sym, subst, take}
 use Rattle.std.specs.Global.{Vec}
 use Rattle.period_core.specs.declared.value.Value.{Value}
 use Rattle.period_keys.specs.Keys.{values_at}
-use Rattle.period_keys.proofs.Ranged.{led_in_range}
+use Rattle.period_keys.proofs.RangeKeys.{led_in_range}
 use Rattle.period_keys.proofs.key_after.range_of_key_after.Goals as goal
 
 pub returns-clause-within : goal.returns-clause-within

@@ -1,7 +1,7 @@
 use Rattle.std.proofs.Common.{◌≡◌, ◌∙◌, [], eqb-true, sym, rules}
 use Rattle.std.specs.Vec.{vec_len}
 use Rattle.std.proofs.lemmas.Bool.{false≢true}
-use Rattle.period_keys.proofs.Ranged.{all_of_nothing, none_counted, nothing_has_all}
+use Rattle.period_keys.proofs.RangeKeys.{all_of_nothing, none_counted, nothing_has_all}
 use Rattle.period_keys.proofs.key_range.KeyRange.is_all.Goals as goal
 use Rattle.period_keys.proofs.key_range.KeyRange.is_all.Goals.{then-is_empty, else-is_empty}
 

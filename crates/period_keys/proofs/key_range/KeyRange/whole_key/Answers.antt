@@ -1,5 +1,5 @@
 use Rattle.std.proofs.Common.{◌∙◌, arith, sym}
-use Rattle.period_keys.proofs.Ranged.{whole_key}
+use Rattle.period_keys.proofs.RangeKeys.{whole_key}
 use Rattle.period_keys.proofs.key_range.KeyRange.whole_key.Goals as goal
 
 pub returns-clause-whole : goal.returns-clause-whole

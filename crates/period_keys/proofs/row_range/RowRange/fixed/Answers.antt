@@ -2,7 +2,7 @@ use Rattle.std.proofs.Common.{◌≡◌, ◌≤◌, ◌∙◌, ℕ, List, ap, ar
 use Rattle.std.proofs.lemmas.List.{length-take-le}
 use Rattle.period_keys.specs.declared.key_range.KeyRange.{KeyRange}
 use Rattle.period_keys.specs.Versions.{has_key_in}
-use Rattle.period_keys.proofs.Ranged.{fixed_values}
+use Rattle.period_keys.proofs.RangeKeys.{fixed_values}
 use Rattle.period_keys.proofs.row_range.RowRange.fixed.Goals as goal
 
 pub returns-clause-each : goal.returns-clause-each

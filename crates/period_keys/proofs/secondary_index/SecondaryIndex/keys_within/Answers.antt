@@ -4,7 +4,7 @@ use Rattle.period_core.specs.Order.{values_cmp}
 use Rattle.period_core.specs.declared.value.Value.{Value}
 use Rattle.period_keys.specs.declared.secondary_index.SecondaryIndex.{SecondaryIndex}
 use Rattle.period_keys.proofs.EntryKeys.{cut_keys, keys_ascend}
-use Rattle.period_keys.proofs.Ranged.{picked_all, picked_more, picked_same}
+use Rattle.period_keys.proofs.Picked.{picked_all, picked_more, picked_same}
 use Rattle.period_keys.proofs.secondary_index.SecondaryIndex.keys_within.Goals as goal
 
 -- the key of an entry: what comes after its values at the index's positions

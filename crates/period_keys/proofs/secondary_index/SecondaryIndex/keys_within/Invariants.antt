@@ -4,7 +4,7 @@ use Rattle.std.specs.declared.ops.Bound.TheVariants.{Included, Unbounded}
 use Rattle.period_core.specs.Order.{values_cmp}
 use Rattle.period_core.specs.declared.value.Value.{Value}
 use Rattle.period_keys.specs.Ranges.{first_values}
-use Rattle.period_keys.proofs.Ranged.{HasPicked}
+use Rattle.period_keys.proofs.Picked.{HasPicked}
 use Rattle.period_keys.proofs.secondary_index.SecondaryIndex.keys_within.Given as goal
 
 abbrev pub invariant-loop-entry : goal.invariant-loop-entry
