@@ -76,7 +76,7 @@ impl KeyRange {
     }
 
     /// The key at these positions, if the range has one key of so many values.
-    pub fn whole_key(&self, positions: &[usize]) -> Option<&[Value]>
+    pub(crate) fn whole_key(&self, positions: &[usize]) -> Option<&[Value]>
         ensures whole { IfSome result (λ key. (values : List ColumnValue)
             → is_in_range self.now (values_at positions.now values) ≡ true
             → values_at positions.now values ≡ key.now) }

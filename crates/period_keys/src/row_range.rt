@@ -75,19 +75,6 @@ impl RowRange {
             values: &leading[..count],
         })
     }
-
-    /// The key at these positions, if each of the rows has this one.
-    pub fn whole_key(&self, positions: &[usize]) -> Option<&[Value]>
-        ensures { IfSome result (λ key. (version : Version)
-            → has_key_in self.now.positions self.now.range version ≡ true
-            → version_key positions.now version ≡ key.now) }
-    {
-        if self.positions.as_slice() == positions {
-            self.range.whole_key(positions)
-        } else {
-            None
-        }
-    }
 }
 
 /// Conditions on a table's rows, which leave a range of the values at any positions.

@@ -109,7 +109,8 @@ impl TableIndex {
         alloc: Global,
         conditions: &C,
     ) -> Result<RowRange, Memory>
-        ensures { IfOk result (λ rows. C.IsRange conditions.now rows.positions rows.range) }
+        ensures left { IfOk result (λ rows. C.IsRange conditions.now rows.positions rows.range) }
+        ensures known { IfOk result (λ rows. Contains self.now.indexed rows.positions) }
     {
         let range = conditions.range_at(alloc, self.rows.positions())?;
         if range.is_all() {

@@ -5,4 +5,4 @@ pub returns-in-Some : goal.returns-in-Some
 returns-in-Some c =
     if_ok c.rows_of.result _ _
     (λ rows within v t. within v.values (c.in-Some.ensures.met v t))
-    c.rows_of.ensures
+    c.rows_of.ensures.left
