@@ -132,8 +132,8 @@ impl EndedVersions {
     /// The versions that a window sees and that may have this key at these positions, the last to
     /// end first: all of the key, and of others some with an equal hash, and those that have no
     /// value at one of the positions. If all are chained by these positions, only those of a chain
-    /// are looked at, and of them none that ends before one that ends too early to be seen. So they
-    /// are no more than by the window alone.
+    /// are looked at, and of them none that ends before one that ends too early to be seen: no more
+    /// than end late enough for the window.
     pub fn seen_of_key(
         &self,
         alloc: Global,
