@@ -14,7 +14,7 @@ use crate::engine::in_memory::TablesInMemory;
 use crate::engine::reading::Access;
 use catalog_core::Cond;
 use coalesce_core::coalesce;
-use period_core::{Memory, PeriodRow, Value, Window};
+use period_core::{Memory, PeriodRow, Value};
 use period_keys::{KeyRange, RowConditions, RowRange, range_of_key_after};
 use std::alloc::Global;
 
@@ -89,8 +89,7 @@ fn once_each(alloc: Global, rows: Vec<PeriodRow>, times: usize) -> Result<Vec<Pe
 /// The rows of a reference's table that are needed in the combined rows that have those of one of
 /// the rows `previous` from the place `at` on: the conditions leave a range of keys after each,
 /// through which they are looked up. None if that is more work than to read them once: if the rows
-/// `previous` are many, or those looked up; if the conditions alone fix as much of a key; or if all
-/// ended versions that the window sees would be read several times.
+/// `previous` are many, or those looked up, or if the conditions alone fix as much of a key.
 pub fn looked_up(
     alloc: Global,
     tables: &mut TablesInMemory,
@@ -128,12 +127,10 @@ pub fn looked_up(
         };
         let left = tables.rows_left(alloc, reference.table, &after)?;
         let positions = tables.key_positions(reference.table);
-        let is_few = rows.len() <= MANY && is_narrower(&left, &alone, positions);
-        let access = Access::of(reference, left);
-        let is_once = reference.window == Window::Now || previous.len() == 1;
-        if !is_few || !is_once && access.ended_values().is_none() {
+        if rows.len() > MANY || !is_narrower(&left, &alone, positions) {
             return Ok(None);
         }
+        let access = Access::of(reference, left);
         read_chained(alloc, tables, &access, conditions, &mut rows)?;
     }
     Ok(Some(once_each(alloc, rows, previous.len())?))
