@@ -252,16 +252,18 @@ class Generator:
 
     def joined(self, tables, condition):
         """A condition that first columns of a table's key, or of one of its references, equal
-        columns of earlier tables; beside it the given one."""
-        place = self.chance.randrange(1, len(tables))
+        columns of other tables, before it or behind; beside it the given one."""
+        place = self.chance.randrange(len(tables))
         known, table = tables[place]
-        earlier = [self.choice(tables[:place])] if self.at(0.5) else tables[:place]
+        others = [*tables[:place], *tables[place + 1:]]
+        if self.at(0.5):
+            others = [self.choice(others)]
         key = self.looked_up(table)
         parts = []
         for column in key[:self.chance.randint(1, len(key))]:
             kind = table.columns[column].kind
-            alike = [(other, name) for other, before in earlier
-                     for name in before.values if before.columns[name].kind == kind]
+            alike = [(other, name) for other, beside in others
+                     for name in beside.values if beside.columns[name].kind == kind]
             if alike:
                 left, right = self.shuffled([self.name(known, column, tables),
                                              self.name(*self.choice(alike), tables)])

@@ -1,12 +1,12 @@
 -- Needed rows of those that references see are enough: a query gives the same of them.
-use Rattle.std.proofs.Common.{◌≡◌, ◌↔◌, ◌&&◌, ◌==◌, ◌+◌, ◌++◌, ◌∷◌, ◌∙◌, ℕ, ℤ, Bool, true, List, [], append_assoc, append-nil, arith, eqb-true, length, length-append, map, refl, Some, sym, ap, subst, inl, inr}
+use Rattle.std.proofs.Common.{◌≡◌, ◌↔◌, ◌&&◌, ◌==◌, ◌+◌, ◌++◌, ◌∷◌, ◌∙◌, ℕ, ℤ, Bool, true, List, [], None, Option, append_assoc, append-nil, arith, eqb-true, length, length-append, map, refl, set, Some, suc, sym, ap, subst, subst₂, inl, inr, zero}
 use Rattle.std.specs.Prelude.{slice_get, slice_index_or}
-use Rattle.std.specs.List.{AllByRecursion, Contains, list_all}
+use Rattle.std.specs.List.{AllByRecursion, AllZip, Contains, list_all}
 use Rattle.std.specs.List.Sorted.{IsPermutation}
 use Rattle.std.proofs.lemmas.Bool.{and_parts}
 use Rattle.std.proofs.lemmas.Bool.Decides.{nat_tests}
 use Rattle.std.proofs.lemmas.List.{length-map}
-use Rattle.std.proofs.lemmas.Slice.Zip.{AllZip-left}
+use Rattle.std.proofs.lemmas.Slice.Zip.{AllZip-long}
 use Rattle.std.proofs.lemmas.List.Sorted.{Contains-permutation, IsPermutation-sym}
 use Rattle.sqlite_trees.proofs.ListLemmas.{IsPermutation-filter, all-append, all_both, filter-map}
 use Rattle.period_core.specs.Windows.{window_sees}
@@ -27,23 +27,20 @@ use Rattle.catalog_core.specs.query.Fitting.{are_in_place, fits, has_kinds, sees
 use Rattle.catalog_core.specs.query.Queries.{Query, both, one, references_of, rows_for}
 use Rattle.catalog_core.specs.table.Kinds.{kind_of_column}
 use Rattle.catalog_core.specs.table.TableWords.{table_of, value_columns}
-use Rattle.history_model.specs.Histories.{History}
+use Rattle.history_model.specs.Histories.{History, catalog_of}
 use Rattle.history_model.specs.OrdinaryQuery.{VisibleInHistory, InCombined, InProduct, InQuery, VisibleInTables, meets_all}
 use Rattle.history_model.specs.Versions.{row_of}
-use Rattle.period_keys.specs.FixedKeys.{HasFrom}
 use Rattle.period_keys.proofs.Members.{from_filter, from_map, in_map}
-use Rattle.snapshot_audit.proofs.Zips.{zip_push, zip_weaker}
 use Rattle.version_store.specs.Contents.{Contents, TableVersion, of_table, version_in}
 use Rattle.version_store.specs.GoodStore.{AreGood, IsGoodVersion, NoExtraCondition}
 use Rattle.version_store.specs.RowValues.{are_of_columns, is_of_column}
 use Rattle.version_store.specs.Scans.{seen_of}
 use Rattle.ended_versions.specs.Packed.{seen_through}
 use Rattle.script_engine.specs.engine.Answering.{AreRowsSeen, IsKnown, IsOfCatalog, SeesRows}
-use Rattle.script_engine.specs.engine.Needed.{AddNeeded, ArePlaced, HaveRowFrom, InRows, IsNeeded, IsNeededAfter, IsNeededBy, IsPrunedAfter, SeeNeeded, SeesWidth}
+use Rattle.script_engine.specs.engine.Needed.{AddNeeded, AreNeeded, AreRead, AreSeen, HaveRowFrom, HasReadFrom, InRead, InRows, IsNeeded, IsNeededAfter, IsNeededBy, IsOfRead, IsPrunedAfter, IsSeenIfRead, SeesWidth, starts_from}
 use Rattle.script_engine.specs.engine.Stored.{AreOfHistory}
 use Rattle.script_engine.proofs.Answering.{at_length}
 use Rattle.script_engine.proofs.Fits.{all_are, each_among, rows_fit}
-use Rattle.script_engine.proofs.Read.{has_behind}
 use Rattle.script_engine.proofs.Seen.{sees_rows}
 
 abbrev Conditions : Type 0
@@ -132,107 +129,176 @@ module _ (history : History) (c : Contents) (reference : QueryReference) (said :
       let fit = rows_fit history c said reference known (map row_of shown_rows) shown_seen in
       subst (λ (v : List Value). has_kinds reference.kinds v ≡ true) same (each_in (λ (r : PeriodRow). has_kinds reference.kinds r.values ≡ true) (map row_of shown_rows) fit row among)
 
-  -- the needed rows of rows of some kinds have these kinds too
-  pub needed_kinds : (earlier : List (List PeriodRow)) (conjuncts : Conditions) (start : ℕ) (rows : List PeriodRow) → IsKnown c.tables reference → IsNeededAfter history earlier conjuncts start reference rows → list_all (λ (row : PeriodRow). has_kinds reference.kinds row.values) rows ≡ true
-  needed_kinds earlier conjuncts start rows known needed =
+  -- rows of those that the reference sees have these kinds too
+  pub seen_kinds : (rows : List PeriodRow) → IsKnown c.tables reference → AreSeen history reference rows → list_all (λ (row : PeriodRow). has_kinds reference.kinds row.values) rows ≡ true
+  seen_kinds rows known seen =
       all_are (λ (row : PeriodRow). has_kinds reference.kinds row.values) rows
       (each_among (λ (row : PeriodRow). has_kinds reference.kinds row.values ≡ true) rows
-      (λ row among. sees_kinds known row.period.start row.values (needed.sound row.period.start row.values (InSnapshot-start rows row among))))
+      (λ row among. sees_kinds known row.period.start row.values (seen row.period.start row.values (InSnapshot-start rows row among))))
 
--- ---- rows that stand before
+-- each of the references sees rows of as many values as it has kinds
+abbrev pub SeeWidths : History → List QueryReference → Type 0
+SeeWidths history = AllByRecursion (λ (reference : QueryReference). SeesWidth history reference (length reference.kinds))
 
-in_rows_more : (earlier : List (List PeriodRow)) (rows : List PeriodRow) (day : ℤ) (first second : List Value) → InRows earlier day first → InSnapshot rows day second → InRows (earlier ++ rows ∷ []) day (first ++ second)
-in_rows_more [] rows day first second none here = (second, [], here, refl, append-nil second ∙ sym (ap (λ (l : List Value). l ++ second) none))
-in_rows_more (others ∷ earlier) rows day first second (before, behind, there, more, is) here = (
-  before,
-  behind ++ second,
-  there,
-  in_rows_more earlier rows day behind second more here,
-  sym (append_assoc before behind second) ∙ ap (λ (l : List Value). l ++ second) is,
-)
+see_widths : (history : History) (c : Contents) (references : List QueryReference) → AreOfHistory history c → AllByRecursion (IsKnown c.tables) references → SeeWidths history references
+see_widths history c [] said known = tt
+see_widths history c (reference ∷ references) said (its, more) =
+    (sees_width history c reference said (length reference.kinds) (known_width c.tables reference its), see_widths history c references said more)
 
--- no lists have no places
-pub no_lists_placed : ArePlaced [] [] 0
-no_lists_placed = record { wide = λ day values none. ap length none; each = tt }
+-- references to tables of the catalog do
+pub known_widths : (history : History) (c : Contents) (references : List QueryReference) → AreOfHistory history c → AllByRecursion (IsKnown (catalog_of history)) references → SeeWidths history references
+known_widths history c references said known = see_widths history c references said (subst (λ (tables : List TableDef). AllByRecursion (IsKnown tables) references) (sym said.tables) known)
 
-rows_split : (earlier : List (List PeriodRow)) (rows : List PeriodRow) (day : ℤ) (values : List Value) → InRows (earlier ++ rows ∷ []) day values → (first : List Value) × (last : List Value) × InRows earlier day first × InSnapshot rows day last × (first ++ last ≡ values)
-rows_split [] rows day values (last, none, here, is_none, is) = ([], last, refl, here, sym (append-nil last) ∙ sym (ap (λ (l : List Value). last ++ l) is_none) ∙ is)
-rows_split (others ∷ earlier) rows day values (before, behind, there, more, is) =
-    let (first, last, stand, here, its) = rows_split earlier rows day behind more in
-    (before ++ first, last, (before, first, there, stand, refl), here, append_assoc before first last ∙ ap (λ (l : List Value). before ++ l) its ∙ is)
-
--- lists have their places, and one more comes behind them
-pub placed_more : (lists : List (List PeriodRow)) (places : List ℕ) (start width next : ℕ) (rows : List PeriodRow) → ((day : ℤ) (values : List Value) → InSnapshot rows day values → length values ≡ width) → next ≡ start + width →
-    ArePlaced lists places start → ArePlaced (lists ++ rows ∷ []) (places ++ start ∷ []) next
-placed_more lists places start width next rows wide next_is placed = record {
-  wide = λ day values stand.
-      let (first, last, before, here, is) = rows_split lists rows day values stand in
-      let sizes = length-append first last in let one = placed.wide day first before in let other = wide day last here in
-      sym (ap length is) ∙ omega (arith, sizes, one, other, next_is);
-  each =
-      zip_push (λ others at. (day : ℤ) (values : List Value) → InRows (lists ++ rows ∷ []) day values → HaveRowFrom others at day values) lists places rows start
-      (zip_weaker (λ others at. (day : ℤ) (values : List Value) → InRows lists day values → HaveRowFrom others at day values)
-      (λ others at. (day : ℤ) (values : List Value) → InRows (lists ++ rows ∷ []) day values → HaveRowFrom others at day values)
-      (λ others at has day values stand.
-      let (first, last, before, here, is) = rows_split lists rows day values stand in
-      let (known, there, from) = has day first before in
-      (known, there, subst (HasFrom known at) is (has_behind known first last at from))) lists places placed.each)
-      (λ day values stand.
-      let (first, last, before, here, is) = rows_split lists rows day values stand in
-      (last, here, (first, [], placed.wide day first before, ap (λ (l : List Value). first ++ l) (append-nil last) ∙ is)));
-}
+-- ---- the rows that a reference needs
 
 -- rows with the same snapshots as those that are looked up
-pub looked_up_alike : (StandBefore : ℤ → List Value → Type 0) (conjuncts : Conditions) (start : ℕ) (InSet : ℤ → List Value → Type 0) (rows others : List PeriodRow) → Equivalent rows others → IsPrunedAfter StandBefore conjuncts start InSet rows → IsPrunedAfter StandBefore conjuncts start InSet others
-looked_up_alike StandBefore conjuncts start InSet rows others same looked = record {
+pub looked_up_alike : (HasKnown : ℤ → List Value → Type 0) (conjuncts : Conditions) (start : ℕ) (InSet : ℤ → List Value → Type 0) (rows others : List PeriodRow) → Equivalent rows others → IsPrunedAfter HasKnown conjuncts start InSet rows → IsPrunedAfter HasKnown conjuncts start InSet others
+looked_up_alike HasKnown conjuncts start InSet rows others same looked = record {
   sound = λ day values h. looked.sound day values ((same day values).1 h);
-  complete = λ day first values rest long before sees met. (same day values).0 (looked.complete day first values rest long before sees met);
+  complete = λ day first values rest long known sees met. (same day values).0 (looked.complete day first values rest long known sees met);
 }
 
--- rows that are needed whatever stands before them
-pub needed_always : (history : History) (earlier : List (List PeriodRow)) (conjuncts : Conditions) (start : ℕ) (reference : QueryReference) (rows : List PeriodRow) → IsNeeded history conjuncts start reference rows →
-    IsNeededAfter history earlier conjuncts start reference rows
-needed_always history earlier conjuncts start reference rows needed = record {
+-- rows that are needed whatever is read
+pub needed_always : (history : History) (starts : List ℕ) (lists : List (Option (List PeriodRow))) (conjuncts : Conditions) (start : ℕ) (reference : QueryReference) (rows : List PeriodRow) → IsNeeded history conjuncts start reference rows →
+    IsNeededAfter history starts lists conjuncts start reference rows
+needed_always history starts lists conjuncts start reference rows needed = record {
   sound = needed.sound;
-  complete = λ day first values rest long before sees met. needed.complete day first values rest long sees met;
+  complete = λ day first values rest long known sees met. needed.complete day first values rest long sees met;
 }
 
--- rows that are needed after one of those of an earlier list
-pub needed_after_list : (history : History) (lists : List (List PeriodRow)) (places : List ℕ) (start index at : ℕ) (previous : List PeriodRow) (conjuncts : Conditions) (reference : QueryReference) (rows : List PeriodRow) → ArePlaced lists places start →
-    slice_get lists index ≡ Some previous → slice_get places index ≡ Some at → IsPrunedAfter (HaveRowFrom previous at) conjuncts start (λ day. VisibleInHistory history day reference) rows → IsNeededAfter history lists conjuncts start reference rows
-needed_after_list history lists places start index at previous conjuncts reference rows placed there its pruned = record {
+zip_get : {A B : Type 0} (R : A → B → Type 0) (xs : List A) (ys : List B) (place : ℕ) (x : A) (y : B) → AllZip R xs ys → slice_get xs place ≡ Some x → slice_get ys place ≡ Some y → R x y
+zip_get R [] ys place x y all there its = absurd cc
+zip_get R (a ∷ xs) [] place x y all there its = absurd cc
+zip_get R (a ∷ xs) (b ∷ ys) zero x y all there its = let same : a ≡ x = cc in let other : b ≡ y = cc in subst₂ R same other all.0
+zip_get R (a ∷ xs) (b ∷ ys) (suc place) x y all there its = zip_get R xs ys place x y all.1 there its
+
+-- rows that are needed after one of those of a list that is read
+pub needed_after_list : (history : History) (starts : List ℕ) (lists : List (Option (List PeriodRow))) (conjuncts : Conditions) (start : ℕ) (reference : QueryReference) (place at : ℕ) (previous rows : List PeriodRow) → slice_get starts place ≡ Some at →
+    slice_get lists place ≡ Some (Some previous) → IsPrunedAfter (HaveRowFrom previous at) conjuncts start (λ day. VisibleInHistory history day reference) rows → IsNeededAfter history starts lists conjuncts start reference rows
+needed_after_list history starts lists conjuncts start reference place at previous rows there its pruned = record {
   sound = pruned.sound;
-  complete = λ day first values rest long before sees met. pruned.complete day first values rest long (has day first before) sees met;
+  complete = λ day first values rest long known sees met.
+      pruned.complete day first values rest long (zip_get (HasReadFrom day (first ++ (values ++ rest))) starts lists place at (Some previous) known there its) sees met;
 }
-  where
-    has : (day : ℤ) (values : List Value) → InRows lists day values → HaveRowFrom previous at day values
-    has = (rw (there, its) at (AllZip-left (λ rows at. (day : ℤ) (values : List Value) → InRows lists day values → HaveRowFrom rows at day values) lists places placed.each index))
+
+-- ---- lists of which some are read
+
+-- before any is read
+none_seen : (history : History) (references : List QueryReference) → AllZip (IsSeenIfRead history) references (map (λ (reference : QueryReference). None) references)
+none_seen history [] = tt
+none_seen history (reference ∷ references) = (tt, none_seen history references)
+
+none_stand : (history : History) (day : ℤ) (references : List QueryReference) (values : List Value) → InProduct (VisibleInHistory history day) references values → InRead history references (map (λ (reference : QueryReference). None) references) day values
+none_stand history day [] values h = h
+none_stand history day (reference ∷ references) values (first, rest, sees, others, is) = (first, rest, sees, tt, none_stand history day references rest others, is)
+
+pub none_are_read : (history : History) (conjuncts : Conditions) (references : List QueryReference) → AreRead history conjuncts references (map (λ (reference : QueryReference). None) references)
+none_are_read history conjuncts references = record {
+  sound = none_seen history references;
+  complete = λ day values product met. none_stand history day references values product;
+}
+
+-- the values of one reference in a combined row, which are to be of its list
+part_at : (history : History) (day : ℤ) (start : ℕ) (references : List QueryReference) (lists : List (Option (List PeriodRow))) (place at : ℕ) (reference : QueryReference) (values : List Value) → SeeWidths history references →
+    slice_get references place ≡ Some reference → slice_get (starts_from start references) place ≡ Some at → InRead history references lists day values →
+    (before : List Value) × (its : List Value) × (behind : List Value) × (start + length before ≡ at) × VisibleInHistory history day reference its × (before ++ (its ++ behind) ≡ values)
+    × ((rows : List PeriodRow) → InSnapshot rows day its → InRead history references (set lists place (Some rows)) day values)
+part_at history day start [] lists place at reference values wide there begins stand = absurd cc
+part_at history day start (r ∷ references) [] place at reference values wide there begins stand = absurd stand
+part_at history day start (r ∷ references) (list ∷ lists) zero at reference values wide there begins (first, rest, sees, of, more, is) =
+    let same : r ≡ reference = cc in
+    let here : start ≡ at = cc in
+    ([], first, rest, omega (arith, here), subst (λ (s : QueryReference). VisibleInHistory history day s first) same sees, is, λ rows its. (first, rest, sees, its, more, is))
+part_at history day start (r ∷ references) (list ∷ lists) (suc place) at reference values (wide, wider) there begins (first, rest, sees, of, more, is) =
+    let (before, its, behind, long, see, joined, put) = part_at history day (start + length r.kinds) references lists place at reference rest wider there begins more in
+    let sizes = length-append first before in
+    let one = wide day first sees in
+    (first ++ before, its, behind, omega (arith, sizes, one, long), see, append_assoc first before (its ++ behind) ∙ ap (λ (l : List Value). first ++ l) joined ∙ is, λ rows here. (first, rest, sees, of, put rows here, is))
+
+-- a combined row has rows of the lists that are read
+has_here : (day : ℤ) (before first rest values : List Value) (start : ℕ) (list : Option (List PeriodRow)) → length before ≡ start → first ++ rest ≡ values → IsOfRead list day first → HasReadFrom day (before ++ values) start list
+has_here day before first rest values start None long is of = tt
+has_here day before first rest values start (Some rows) long is of = (first, of, (before, rest, long, ap (λ (l : List Value). before ++ l) is))
+
+have_read : (history : History) (day : ℤ) (start : ℕ) (references : List QueryReference) (lists : List (Option (List PeriodRow))) (before values : List Value) → SeeWidths history references → length before ≡ start → InRead history references lists day values →
+    AllZip (HasReadFrom day (before ++ values)) (starts_from start references) lists
+have_read history day start [] [] before values wide long stand = tt
+have_read history day start [] (list ∷ lists) before values wide long stand = absurd stand
+have_read history day start (reference ∷ references) [] before values wide long stand = absurd stand
+have_read history day start (reference ∷ references) (list ∷ lists) before values (wide, wider) long (first, rest, sees, of, more, is) =
+    let longer : length (before ++ first) ≡ start + length reference.kinds = (let sizes = length-append before first in let its = wide day first sees in omega (arith, sizes, its, long)) in (
+      has_here day before first rest values start list long is of,
+      subst (λ (whole : List Value). AllZip (HasReadFrom day whole) (starts_from (start + length reference.kinds) references) lists) (append_assoc before first rest ∙ ap (λ (l : List Value). before ++ l) is)
+          (have_read history day (start + length reference.kinds) references lists (before ++ first) rest wider longer more),
+    )
+
+zip_set : {A B : Type 0} (R : A → B → Type 0) (xs : List A) (ys : List B) (place : ℕ) (x : A) (y : B) → AllZip R xs ys → slice_get xs place ≡ Some x → R x y → AllZip R xs (set ys place y)
+zip_set R [] ys place x y all there its = absurd cc
+zip_set R (a ∷ xs) [] place x y all there its = absurd all
+zip_set {A = A} R (a ∷ xs) (b ∷ ys) zero x y all there its = let same : x ≡ a = cc in (subst (λ (z : A). R z y) same its, all.1)
+zip_set R (a ∷ xs) (b ∷ ys) (suc place) x y all there its = (all.0, zip_set R xs ys place x y all.1 there its)
+
+-- one list more is read
+pub read_more : (history : History) (conjuncts : Conditions) (references : List QueryReference) (lists : List (Option (List PeriodRow))) (place at : ℕ) (reference : QueryReference) (rows : List PeriodRow) → SeeWidths history references →
+    slice_get references place ≡ Some reference → slice_get (starts_from 0 references) place ≡ Some at → IsNeededAfter history (starts_from 0 references) lists conjuncts at reference rows → AreRead history conjuncts references lists →
+    AreRead history conjuncts references (set lists place (Some rows))
+read_more history conjuncts references lists place at reference rows wide there begins needed old = record {
+  sound = zip_set (IsSeenIfRead history) references lists place reference (Some rows) old.sound there needed.sound;
+  complete = λ day values product met.
+      let stand = old.complete day values product met in
+      let (before, its, behind, long, sees, is, put) = part_at history day 0 references lists place at reference values wide there begins stand in
+      let known : AllZip (HasReadFrom day (before ++ (its ++ behind))) (starts_from 0 references) lists =
+      subst (λ (whole : List Value). AllZip (HasReadFrom day whole) (starts_from 0 references) lists) (sym is) (have_read history day 0 references lists [] values wide refl stand) in
+      put rows (needed.complete day before its behind (omega (arith, long)) known sees (subst (λ (v : List Value). meets_all conjuncts v ≡ true) (sym is) met));
+}
+
+width_at : (history : History) (references : List QueryReference) (place : ℕ) (reference : QueryReference) → SeeWidths history references → slice_get references place ≡ Some reference → SeesWidth history reference (length reference.kinds)
+width_at history [] place reference widths there = absurd cc
+width_at history (r ∷ references) zero reference widths there = let same : r ≡ reference = cc in subst (λ (s : QueryReference). SeesWidth history s (length s.kinds)) same widths.0
+width_at history (r ∷ references) (suc place) reference widths there = width_at history references place reference widths.1 there
+
+-- the list of the reference in a place
+pub read_at_place : (history : History) (c : Contents) (references : List QueryReference) (starts : List ℕ) (lists : List (Option (List PeriodRow))) (conjuncts others : Conditions) (place at width : ℕ) (reference : QueryReference) (rows : List PeriodRow) → AreOfHistory history c →
+    AllByRecursion (IsKnown (catalog_of history)) references → starts ≡ starts_from 0 references → others ≡ conjuncts → slice_get references place ≡ Some reference → slice_get starts place ≡ Some at → width ≡ length reference.kinds →
+    (SeesWidth history reference width → IsNeededAfter history starts lists others at reference rows) → AreRead history conjuncts references lists → AreRead history conjuncts references (set lists place (Some rows))
+read_at_place history c references starts lists conjuncts others place at width reference rows said known starts_are same there begins wide needed old =
+    let widths : SeeWidths history references = known_widths history c references said known in
+    let its : SeesWidth history reference width = subst (SeesWidth history reference) (sym wide) (width_at history references place reference widths there) in
+    read_more history conjuncts references lists place at reference rows widths there (subst (λ (l : List ℕ). slice_get l place ≡ Some at) starts_are begins)
+    (subst₂ (λ (l : List ℕ) (cs : Conditions). IsNeededAfter history l lists cs at reference rows) starts_are same (needed its)) old
+
+-- all are read
+all_seen : (history : History) (references : List QueryReference) (lists : List (List PeriodRow)) → AllZip (IsSeenIfRead history) references (map Some lists) → AllZip (AreSeen history) references lists
+all_seen history [] [] seen = tt
+all_seen history [] (rows ∷ lists) seen = absurd seen
+all_seen history (reference ∷ references) [] seen = absurd seen
+all_seen history (reference ∷ references) (rows ∷ lists) seen = (seen.0, all_seen history references lists seen.1)
+
+all_stand : (history : History) (day : ℤ) (references : List QueryReference) (lists : List (List PeriodRow)) (values : List Value) → InRead history references (map Some lists) day values → InRows lists day values
+all_stand history day [] [] values stand = stand
+all_stand history day [] (rows ∷ lists) values stand = absurd stand
+all_stand history day (reference ∷ references) [] values stand = absurd stand
+all_stand history day (reference ∷ references) (rows ∷ lists) values (first, rest, sees, here, more, is) = (first, rest, here, all_stand history day references lists rest more, is)
+
+pub all_are_read : (history : History) (conjuncts : Conditions) (references : List QueryReference) (lists : List (List PeriodRow)) → AreRead history conjuncts references (map Some lists) → AreNeeded history conjuncts references lists
+all_are_read history conjuncts references lists read = record {
+  sound = all_seen history references lists read.sound;
+  complete = λ day values product met. all_stand history day references lists values (read.complete day values product met);
+}
 
 -- ---- lists in their places
 
--- the lists in the places of these references
-abbrev NeededIn : List (List PeriodRow) → History → Conditions → List (List PeriodRow) → ℕ → List QueryReference → Type 0
-NeededIn tables history conjuncts earlier start [] = Unit {0}
-NeededIn tables history conjuncts earlier start (reference ∷ references) =
-    IsNeededAfter history earlier conjuncts start reference (rows_for tables reference)
-    × ((width : ℕ) × SeesWidth history reference width × NeededIn tables history conjuncts (earlier ++ rows_for tables reference ∷ []) (start + width) references)
+-- each list is in the place of its reference
+abbrev ArePlaced : List (List PeriodRow) → List QueryReference → List (List PeriodRow) → Type 0
+ArePlaced tables = AllZip (λ reference rows. rows_for tables reference ≡ rows)
 
+-- the lists in the places of a query's references are what it needs
 abbrev QueryNeededIn : List (List PeriodRow) → History → Query → Type 0
-QueryNeededIn tables history (one select) = NeededIn tables history select.conjuncts [] 0 select.references
+QueryNeededIn tables history (one select) = (lists : List (List PeriodRow)) × ArePlaced tables select.references lists × AreNeeded history select.conjuncts select.references lists
 QueryNeededIn tables history (both operator left right) = QueryNeededIn tables history left × QueryNeededIn tables history right
 
-as_many : (history : History) (conjuncts : Conditions) (earlier : List (List PeriodRow)) (start : ℕ) (references : List QueryReference) (lists : List (List PeriodRow)) → SeeNeeded history conjuncts earlier start references lists →
-    length lists ≡ length references
-as_many history conjuncts earlier start [] [] needed = refl
-as_many history conjuncts earlier start [] (rows ∷ lists) needed = absurd needed
-as_many history conjuncts earlier start (reference ∷ references) [] needed = absurd needed
-as_many history conjuncts earlier start (reference ∷ references) (rows ∷ lists) needed =
-    let (here, (width, wide, more)) = needed in
-    let rest = as_many history conjuncts (earlier ++ rows ∷ []) (start + width) references lists more in
-    omega (arith, rest)
-
 query_as_many : (history : History) (query : Query) (lists : List (List PeriodRow)) → IsNeededBy history query lists → length lists ≡ length (references_of query)
-query_as_many history (one select) lists needed = as_many history select.conjuncts [] 0 select.references lists needed
+query_as_many history (one select) lists needed = AllZip-long (AreSeen history) select.references lists needed.sound
 query_as_many history (both operator left right) lists (first, second, split, a, b) =
     let one_side = query_as_many history left first a in
     let other = query_as_many history right second b in
@@ -251,25 +317,22 @@ placed_parts place (x ∷ xs) ys h =
     both_true : (a b : Bool) → a ≡ true → b ≡ true → (a && b) ≡ true
     both_true a b e f = rw e f
 
-placed : (history : History) (conjuncts : Conditions) (earlier : List (List PeriodRow)) (start : ℕ) (references : List QueryReference) (before lists behind : List (List PeriodRow)) → are_in_place (length before) references ≡ true →
-    SeeNeeded history conjuncts earlier start references lists → NeededIn (before ++ (lists ++ behind)) history conjuncts earlier start references
-placed history conjuncts earlier start [] before lists behind in_place needed = tt
-placed history conjuncts earlier start (reference ∷ references) before [] behind in_place needed = absurd needed
-placed history conjuncts earlier start (reference ∷ references) before (rows ∷ lists) behind in_place needed =
+placed : (history : History) (references : List QueryReference) (before lists behind : List (List PeriodRow)) → are_in_place (length before) references ≡ true → AllZip (AreSeen history) references lists → ArePlaced (before ++ (lists ++ behind)) references lists
+placed history [] before [] behind in_place seen = tt
+placed history [] before (rows ∷ lists) behind in_place seen = absurd seen
+placed history (reference ∷ references) before [] behind in_place seen = absurd seen
+placed history (reference ∷ references) before (rows ∷ lists) behind in_place seen =
     let all : List (List PeriodRow) = before ++ rows ∷ (lists ++ behind) in
     let (here, later) = and_parts (reference.place == length before) (are_in_place (length before + 1) references) in_place in
     let at : reference.place ≡ length before = eqb-true reference.place (length before) here in
-    let its : rows_for all reference ≡ rows = ap (λ (n : ℕ). slice_index_or all n []) at ∙ at_length before rows (lists ++ behind) in
-    let long : length before + 1 ≡ length (before ++ rows ∷ []) = (let sizes = length-append before (rows ∷ []) in omega (arith, sizes)) in
-    let (needs, (width, wide, more)) = needed in
-    let rest : NeededIn all history conjuncts (earlier ++ rows ∷ []) (start + width) references =
-    subst (λ (l : List (List PeriodRow)). NeededIn l history conjuncts (earlier ++ rows ∷ []) (start + width) references) (append_assoc before (rows ∷ []) (lists ++ behind))
-    (placed history conjuncts (earlier ++ rows ∷ []) (start + width) references (before ++ rows ∷ []) lists behind (subst (λ (n : ℕ). are_in_place n references ≡ true) long later) more) in
-    subst (λ (l : List PeriodRow). IsNeededAfter history earlier conjuncts start reference l × ((width : ℕ) × SeesWidth history reference width × NeededIn all history conjuncts (earlier ++ l ∷ []) (start + width) references)) (sym its)
-    (needs, (width, wide, rest))
+    let long : length before + 1 ≡ length (before ++ rows ∷ []) = (let sizes = length-append before (rows ∷ []) in omega (arith, sizes)) in (
+      ap (λ (n : ℕ). slice_index_or all n []) at ∙ at_length before rows (lists ++ behind),
+      subst (λ (l : List (List PeriodRow)). ArePlaced l references lists) (append_assoc before (rows ∷ []) (lists ++ behind))
+          (placed history references (before ++ rows ∷ []) lists behind (subst (λ (n : ℕ). are_in_place n references ≡ true) long later) seen.1),
+    )
 
 query_placed : (history : History) (query : Query) (before lists behind : List (List PeriodRow)) → are_in_place (length before) (references_of query) ≡ true → IsNeededBy history query lists → QueryNeededIn (before ++ (lists ++ behind)) history query
-query_placed history (one select) before lists behind in_place needed = placed history select.conjuncts [] 0 select.references before lists behind in_place needed
+query_placed history (one select) before lists behind in_place needed = (lists, placed history select.references before lists behind in_place needed.sound, needed)
 query_placed history (both operator left right) before lists behind in_place (first, second, split, a, b) =
     let (here, later) = placed_parts (length before) (references_of left) (references_of right) in_place in
     let many = query_as_many history left first a in
@@ -284,27 +347,20 @@ query_placed history (both operator left right) before lists behind in_place (fi
 
 module _ (tables : List (List PeriodRow)) (history : History) (day : ℤ) where
   -- rows that are there are seen
-  sound_product : (conjuncts : Conditions) (earlier : List (List PeriodRow)) (start : ℕ) (references : List QueryReference) (values : List Value) → NeededIn tables history conjuncts earlier start references →
+  sound_product : (references : List QueryReference) (lists : List (List PeriodRow)) (values : List Value) → ArePlaced tables references lists → AllZip (AreSeen history) references lists →
       InProduct (VisibleInTables tables day) references values → InProduct (VisibleInHistory history day) references values
-  sound_product conjuncts earlier start [] values needed h = h
-  sound_product conjuncts earlier start (reference ∷ references) values (needs, (width, wide, more)) (first, rest, sees, others, is) =
-      (first, rest, needs.sound day first sees, sound_product conjuncts (earlier ++ rows_for tables reference ∷ []) (start + width) references rest more others, is)
+  sound_product [] lists values in_place seen h = h
+  sound_product (reference ∷ references) [] values in_place seen h = absurd seen
+  sound_product (reference ∷ references) (rows ∷ lists) values (its, more) (here, others) (first, rest, there, product, is) =
+      (first, rest, here day first (subst (λ (l : List PeriodRow). InSnapshot l day first) its there), sound_product references lists rest more others product, is)
 
-  -- and none is missing that is part of a row that meets the conditions
-  whole_product : (conjuncts : Conditions) (earlier : List (List PeriodRow)) (start : ℕ) (references : List QueryReference) (before values : List Value) → NeededIn tables history conjuncts earlier start references → length before ≡ start →
-      InRows earlier day before → meets_all conjuncts (before ++ values) ≡ true → InProduct (VisibleInHistory history day) references values → InProduct (VisibleInTables tables day) references values
-  whole_product conjuncts earlier start [] before values needed long stand met h = h
-  whole_product conjuncts earlier start (reference ∷ references) before values (needs, (width, wide, more)) long stand met (first, rest, sees, others, is) =
-      let whole : meets_all conjuncts (before ++ (first ++ rest)) ≡ true = subst (λ (v : List Value). meets_all conjuncts (before ++ v) ≡ true) (sym is) met in
-      let longer : length (before ++ first) ≡ start + width = (let sizes = length-append before first in let its = wide day first sees in omega (arith, sizes, its, long)) in
-      let here : InSnapshot (rows_for tables reference) day first = needs.complete day before first rest long stand sees whole in (
-        first,
-        rest,
-        here,
-        whole_product conjuncts (earlier ++ rows_for tables reference ∷ []) (start + width) references (before ++ first) rest more longer (in_rows_more earlier (rows_for tables reference) day before first stand here)
-            (subst (λ (v : List Value). meets_all conjuncts v ≡ true) (sym (append_assoc before first rest)) whole) others,
-        is,
-      )
+  -- values of a row of each list are there
+  there_product : (references : List QueryReference) (lists : List (List PeriodRow)) (values : List Value) → ArePlaced tables references lists → InRows lists day values → InProduct (VisibleInTables tables day) references values
+  there_product [] [] values in_place stand = stand
+  there_product [] (rows ∷ lists) values in_place stand = absurd in_place
+  there_product (reference ∷ references) [] values in_place stand = absurd in_place
+  there_product (reference ∷ references) (rows ∷ lists) values (its, more) (first, rest, here, stand, is) =
+      (first, rest, subst (λ (l : List PeriodRow). InSnapshot l day first) (sym its) here, there_product references lists rest more stand, is)
 
   combined_alike : (operator : SetOperator) (A B C D : List Value → Type 0) → ((row : List Value) → (A row ↔ C row)) → ((row : List Value) → (B row ↔ D row)) → (row : List Value) → (InCombined operator A B row ↔ InCombined operator C D row)
   combined_alike Union A B C D left right row = (
@@ -321,9 +377,9 @@ module _ (tables : List (List PeriodRow)) (history : History) (day : ℤ) where
   )
 
   given_alike : (query : Query) → QueryNeededIn tables history query → (row : List Value) → (InQuery (VisibleInTables tables day) query row ↔ InQuery (VisibleInHistory history day) query row)
-  given_alike (one select) needed row = (
-    λ (values, product, met, its). (values, sound_product select.conjuncts [] 0 select.references values needed product, met, its),
-    λ (values, product, met, its). (values, whole_product select.conjuncts [] 0 select.references [] values needed refl refl met product, met, its),
+  given_alike (one select) (lists, in_place, needed) row = (
+    λ (values, product, met, its). (values, sound_product select.references lists values in_place needed.sound product, met, its),
+    λ (values, product, met, its). (values, there_product select.references lists values in_place (needed.complete day values product met), met, its),
   )
   given_alike (both operator left right) (a, b) row =
       combined_alike operator (InQuery (VisibleInTables tables day) left) (InQuery (VisibleInTables tables day) right) (InQuery (VisibleInHistory history day) left) (InQuery (VisibleInHistory history day) right)
@@ -339,18 +395,18 @@ needed_alike history query tables fit needed day row =
 
 -- ---- the lists fit
 
-kinds_placed : (history : History) (c : Contents) (tables : List (List PeriodRow)) (conjuncts : Conditions) (earlier : List (List PeriodRow)) (start : ℕ) (references : List QueryReference) → AreOfHistory history c →
-    NeededIn tables history conjuncts earlier start references →
+kinds_placed : (history : History) (c : Contents) (tables : List (List PeriodRow)) (references : List QueryReference) (lists : List (List PeriodRow)) → AreOfHistory history c → ArePlaced tables references lists → AllZip (AreSeen history) references lists →
     AllByRecursion (λ (r : QueryReference). IsKnown c.tables r → sees_its_kinds tables r ≡ true) references
-kinds_placed history c tables conjuncts earlier start [] said needed = tt
-kinds_placed history c tables conjuncts earlier start (reference ∷ references) said (needs, (width, wide, more)) = (
-  λ known. needed_kinds history c reference said earlier conjuncts start (rows_for tables reference) known needs,
-  kinds_placed history c tables conjuncts (earlier ++ rows_for tables reference ∷ []) (start + width) references said more,
+kinds_placed history c tables [] lists said in_place seen = tt
+kinds_placed history c tables (reference ∷ references) [] said in_place seen = absurd seen
+kinds_placed history c tables (reference ∷ references) (rows ∷ lists) said (its, more) (here, others) = (
+  λ known. seen_kinds history c reference said (rows_for tables reference) known (subst (AreSeen history reference) (sym its) here),
+  kinds_placed history c tables references lists said more others,
 )
 
 query_kinds : (history : History) (c : Contents) (tables : List (List PeriodRow)) (query : Query) → AreOfHistory history c → QueryNeededIn tables history query →
     AllByRecursion (λ (r : QueryReference). IsKnown c.tables r → sees_its_kinds tables r ≡ true) (references_of query)
-query_kinds history c tables (one select) said needed = kinds_placed history c tables select.conjuncts [] 0 select.references said needed
+query_kinds history c tables (one select) said (lists, in_place, needed) = kinds_placed history c tables select.references lists said in_place needed.sound
 query_kinds history c tables (both operator left right) said (a, b) =
     all-append (λ (r : QueryReference). IsKnown c.tables r → sees_its_kinds tables r ≡ true) (references_of left) (references_of right) (query_kinds history c tables left said a) (query_kinds history c tables right said b)
 
@@ -366,33 +422,6 @@ needed_fits history c query tables said known needed =
     rw (known.placed, long, all_are (sees_its_kinds tables) references kinds) refl
 
 -- ---- lists that are added
-
-pub added_none : (history : History) (conjuncts : Conditions) (earlier : List (List PeriodRow)) (start : ℕ) (references : List QueryReference) (lists : List (List PeriodRow)) → references ≡ [] →
-    AddNeeded (SeeNeeded history conjuncts earlier start references) lists lists
-added_none history conjuncts earlier start references lists none =
-    ([], sym (append-nil lists), subst (λ (rs : List QueryReference). SeeNeeded history conjuncts earlier start rs []) (sym none) tt)
-
--- a reference's list, and after it the lists of the later references
-pub added_more : (history : History) (conjuncts : Conditions) (start next width : ℕ) (references more : List QueryReference) (reference : QueryReference) (rows : List PeriodRow) (lists pushed new : List (List PeriodRow)) → references ≡ reference ∷ more →
-    IsNeededAfter history lists conjuncts start reference rows → SeesWidth history reference width → next ≡ start + width → pushed ≡ lists ++ rows ∷ [] → AddNeeded (SeeNeeded history conjuncts pushed next more) pushed new →
-    AddNeeded (SeeNeeded history conjuncts lists start references) lists new
-added_more history conjuncts start next width references more reference rows lists pushed new split needs wide next_is pushed_is (added, made, others) = (
-  rows ∷ added,
-  made ∙ ap (λ (l : List (List PeriodRow)). l ++ added) pushed_is ∙ append_assoc lists (rows ∷ []) added,
-  subst (λ (rs : List QueryReference). SeeNeeded history conjuncts lists start rs (rows ∷ added)) (sym split) (
-    needs,
-    (
-      width,
-      wide,
-      subst (λ (l : List (List PeriodRow)). SeeNeeded history conjuncts l (start + width) more added) pushed_is (subst (λ (n : ℕ). SeeNeeded history conjuncts pushed n more added) next_is others),
-    ),
-  ),
-)
-
--- lists of their own that come after others
-pub added_behind : (AreNeeded : List (List PeriodRow) → Type 0) (lists none seen new : List (List PeriodRow)) → none ≡ [] → AddNeeded AreNeeded none seen → new ≡ lists ++ seen → AddNeeded AreNeeded lists new
-added_behind AreNeeded lists none seen new empty (added, made, needed) is =
-    (added, is ∙ ap (λ (l : List (List PeriodRow)). lists ++ l) (made ∙ ap (λ (l : List (List PeriodRow)). l ++ added) empty), needed)
 
 pub added_both : (history : History) (operator : SetOperator) (left right : Query) (lists middle new : List (List PeriodRow)) → AddNeeded (IsNeededBy history left) lists middle → AddNeeded (IsNeededBy history right) middle new →
     AddNeeded (IsNeededBy history (both operator left right)) lists new

@@ -1,6 +1,6 @@
 -- The rows that are read of a table's versions in memory: those that a reference sees, or that it
 -- needs of them.
-use Rattle.std.proofs.Common.{◌≡◌, ◌⊎◌, false, ◌++◌, ◌∷◌, ◌∙◌, [], ℕ, ℤ, List, ap, append_assoc, inl, inr, length, map, refl, subst, sym, true}
+use Rattle.std.proofs.Common.{◌≡◌, ◌⊎◌, false, ◌++◌, ◌∷◌, ◌∙◌, [], ℕ, ℤ, List, ap, inl, inr, length, map, refl, subst, sym, true}
 use Rattle.std.specs.Prelude.{IsTrue}
 use Rattle.std.proofs.lemmas.Bool.{false≢true}
 use Rattle.std.specs.List.{Contains}
@@ -49,15 +49,6 @@ AreUnruled reference access conjuncts start = AreTaken (IsInSight reference) (Ma
 -- the rows of such versions are added
 abbrev pub AddUnruled : QueryReference → Access → List (Tree CompareValues) → ℕ → List VersionRow → List PeriodRow → List PeriodRow → Type 0
 AddUnruled reference access conjuncts start = AddRead (IsInSight reference) (MayBeUnread access (MayLack reference conjuncts start)) row_of
-
--- values that a row has from a place on, the row followed by others has too
-pub has_behind : (known row behind : List Value) (at : ℕ) → HasFrom known at row → HasFrom known at (row ++ behind)
-has_behind known row behind at (before, after, long, is) = (
-  before,
-  after ++ behind,
-  long,
-  ap (λ (l : List Value). before ++ l) (sym (append_assoc known after behind)) ∙ sym (append_assoc before (known ++ after) behind) ∙ ap (λ (l : List Value). l ++ behind) is,
-)
 
 -- without conditions and over all keys they are those that the reference sees
 unruled_all : (reference : QueryReference) (access : Access) (all some : List VersionRow) → access.window ≡ reference.window → ((v : VersionRow) → is_within access v ≡ true) → AreUnruled reference access [] 0 all some →
@@ -151,7 +142,7 @@ module _ (history : History) (tables : List RowsByKey) (lists : List (List Packe
           ((holds-append rows (map row_of some) day values).1 (elim ((holds-push previous row day known).0 here) [
             | inl was ↦ inl (old.complete day first values rest long (known, was, has) sees met)
             | inr (same, from, to) ↦
-                let its : HasFrom row.values at (first ++ (values ++ rest)) = has_behind row.values first (values ++ rest) at (subst (λ (vs : List Value). HasFrom vs at first) (sym same) has) in
+                let its : HasFrom row.values at (first ++ (values ++ rest)) = subst (λ (vs : List Value). HasFrom vs at (first ++ (values ++ rest))) (sym same) has in
                 inr (read_whole day first values rest long sees met (within first values rest long (wide day values sees) its met))
           ]));
     }

@@ -1,5 +1,5 @@
-//! Rows of a later reference of a select, looked up after each of a few rows before it: the
-//! conditions leave a range of keys after each.
+//! Rows of a reference of a select, looked up after each of a few rows of another: the conditions
+//! leave a range of keys after each.
 
 ghost use Rattle.std.specs.Prelude.{◌≡◌, IfOk, IfSome, length, min};
 ghost use Rattle.history_model.specs.Histories.{History};
@@ -12,13 +12,13 @@ use crate::engine::chained::read_chained;
 use crate::engine::conditions::Conditions;
 use crate::engine::in_memory::TablesInMemory;
 use crate::engine::reading::Access;
-use catalog_core::Cond;
+use catalog_core::resolved::QueryReference;
 use coalesce_core::coalesce;
-use period_core::{Memory, PeriodRow, Value};
+use period_core::{Memory, PeriodRow, Value, Window};
 use period_keys::{KeyRange, RowConditions, RowRange, range_of_key_after};
 use std::alloc::Global;
 
-/// The most rows after each of which the rows of the next reference are looked up.
+/// The most rows after each of which the rows of another reference are looked up.
 const FEW: usize = 16;
 
 /// The most rows that are looked up before one row more of the earlier ones is looked at. Several
@@ -35,8 +35,8 @@ fn fixed_count(rows: &RowRange) -> usize
     }
 }
 
-/// Whether rows are told by more than others: by more values of the key at these positions, or else
-/// by the columns of a reference, if the others are told by no value of either.
+/// Whether rows are found by more than others: by more values of the key at these positions, or
+/// else by the columns of a reference, if the others are found by no value of either.
 fn is_narrower(rows: &RowRange, others: &RowRange, positions: &[usize]) -> bool {
     let of_key = others.positions.as_slice() == positions;
     let fixed = if of_key { fixed_count(others) } else { 0 };
@@ -46,32 +46,31 @@ fn is_narrower(rows: &RowRange, others: &RowRange, positions: &[usize]) -> bool 
     !rows.range.is_all() && of_key && fixed == 0
 }
 
-/// The conditions of a select on a row of its combined rows that have known values from the place
-/// `at` on. The row's values begin at `start`, and are `width` many.
+/// The conditions on a row in the combined rows that have known values from the place `at` on.
 #[derive(Clone, Copy)]
 struct KnownConditions<'a> {
-    conjuncts: &'a [Cond],
+    conditions: &'a Conditions<'a>,
     known: &'a [Value],
     at: usize,
-    start: usize,
-    width: usize,
 }
 
 impl RowConditions for KnownConditions<'_> {
     ghost use Rattle.period_keys.specs.FixedKeys.{IsRangeAfter};
 
-    ghost IsRange = { λ these positions range. IsRangeAfter these.conjuncts.now these.known.now
-        these.at these.start these.width positions range };
+    ghost IsRange = { λ these positions range. IsRangeAfter these.conditions.now.conjuncts.now
+        these.known.now these.at these.conditions.now.start these.conditions.now.width positions
+        range };
 
     fn range_at(&self, alloc: Global, positions: &[usize]) -> Result<KeyRange, Memory> {
-        let KnownConditions {
+        let Conditions {
             conjuncts,
-            known,
-            at,
             start,
             width,
-        } = *self;
-        range_of_key_after(alloc, conjuncts, known, at, start, width, positions)
+            ..
+        } = *self.conditions;
+        range_of_key_after(
+            alloc, conjuncts, self.known, self.at, start, width, positions,
+        )
     }
 }
 
@@ -86,14 +85,29 @@ fn once_each(alloc: Global, rows: Vec<PeriodRow>, times: usize) -> Result<Vec<Pe
     Ok(rows)
 }
 
+/// Whether a reference sees few rows whatever the conditions are: its table has few keys, and few
+/// versions that have ended, if it may see them.
+pub fn sees_few(tables: &TablesInMemory, reference: &QueryReference) -> bool {
+    let Some(table) = tables.table(reference.table) else {
+        return true;
+    };
+    let ended = match reference.window {
+        Window::Now => 0,
+        _ => table.ended.len(),
+    };
+    table.current.rows().groups().len() <= FEW && ended <= FEW
+}
+
 /// The rows of a reference's table that are needed in the combined rows that have those of one of
 /// the rows `previous` from the place `at` on: the conditions leave a range of keys after each,
 /// through which they are looked up. None if that is more work than to read them once: if the rows
-/// `previous` are many, or those looked up, or if the conditions alone fix as much of a key.
+/// `previous` are many, or those looked up, or if the conditions alone, which leave the rows
+/// `alone`, fix as much of a key.
 pub fn looked_up(
     alloc: Global,
     tables: &mut TablesInMemory,
     conditions: &Conditions,
+    alone: &RowRange,
     at: usize,
     previous: &[PeriodRow],
 ) -> Result<Option<Vec<PeriodRow>>, Memory>
@@ -108,26 +122,18 @@ pub fn looked_up(
     if previous.len() > FEW {
         return Ok(None);
     }
-    let Conditions {
-        reference,
-        conjuncts,
-        start,
-        width,
-    } = *conditions;
-    let alone = tables.rows_left(alloc, reference.table, conditions)?;
+    let reference = conditions.reference;
     let mut rows = Vec::new(alloc);
     for row in previous {
         let known = row.values.as_slice();
         let after = KnownConditions {
-            conjuncts,
+            conditions,
             known,
             at,
-            start,
-            width,
         };
         let left = tables.rows_left(alloc, reference.table, &after)?;
         let positions = tables.key_positions(reference.table);
-        if rows.len() > MANY || !is_narrower(&left, &alone, positions) {
+        if rows.len() > MANY || !is_narrower(&left, alone, positions) {
             return Ok(None);
         }
         let access = Access::of(reference, left);

@@ -1,7 +1,8 @@
 //! The rows that the table references of a query have to see: of the versions in memory those that
 //! can be part of a combined row that meets the conditions of their select. So a query whose
 //! conditions leave a range of keys looks at the rows with a key in that range alone. One that
-//! joins a few rows with a later table by its key looks at the rows of their keys.
+//! joins a few rows with a table, by its key or by the columns of a reference, looks at the rows of
+//! their keys, whichever of the two comes first in the text.
 
 ghost use Rattle.std.specs.List.{AllByRecursion};
 ghost use Rattle.std.specs.Prelude.{◌≡◌, IfErr, IfOk, OnOk, map};
@@ -13,118 +14,16 @@ ghost use Rattle.period_core.specs.declared.refusal.Refusal.TheVariants.{Memory 
 ghost use Rattle.version_store.specs.StoreState.{IsStoreRefusal};
 ghost use Rattle.script_engine.specs.Headline.{IsSequencedAnswer};
 ghost use Rattle.script_engine.specs.engine.Answering.{IsKnown, IsOfCatalog, columns_of};
-ghost use Rattle.script_engine.specs.engine.Needed.{AddNeeded, ArePlaced, IsNeeded, IsNeededAfter};
-ghost use Rattle.script_engine.specs.engine.Needed.{IsNeededBy, SeeNeeded, SeesWidth};
+ghost use Rattle.script_engine.specs.engine.Needed.{AddNeeded, IsNeededBy};
 ghost use Rattle.script_engine.specs.engine.Stored.{TablesRepresent};
 
-use crate::engine::chained::read_chained;
-use crate::engine::conditions::Conditions;
 use crate::engine::in_memory::TablesInMemory;
-use crate::engine::looked_up_rows::looked_up;
-use crate::engine::reading::Access;
+use crate::engine::read_lists::push_needed_by_each;
 use crate::engine::sequenced_queries::evaluate;
-use catalog_core::resolved::{Query, QueryReference, Tables};
-use catalog_core::{Cond, fits};
+use catalog_core::fits;
+use catalog_core::resolved::{Query, Tables};
 use period_core::{Answer, Items, Memory, PeriodRow, Refusal};
 use std::alloc::Global;
-
-/// The rows that a table reference has to see: those that the conditions leave.
-fn needed_by(
-    alloc: Global,
-    tables: &mut TablesInMemory,
-    conditions: &Conditions,
-) -> Result<Vec<PeriodRow>, Memory>
-    ensures needed { IfOk result (λ rows. (history : History)
-        → TablesRepresent history tables.old
-        → SeesWidth history conditions.now.reference.now conditions.now.width
-        → IsNeeded history conditions.now.conjuncts.now conditions.now.start
-        conditions.now.reference.now rows.items) }
-    ensures same { tables.new ≡ tables.old }
-{
-    let reference = conditions.reference;
-    let left = tables.rows_left(alloc, reference.table, conditions)?;
-    let access = Access::of(reference, left);
-    let mut rows = Vec::new(alloc);
-    read_chained(alloc, tables, &access, conditions, &mut rows)?;
-    Ok(rows)
-}
-
-/// The lists that the first references of a select see, in their order, and the places at which the
-/// values of each begin in a combined row.
-#[derive(Drop)]
-struct PlacedLists {
-    places: Vec<usize>,
-    lists: Vec<Items<PeriodRow>>,
-}
-
-/// Rows that a table reference has to see, if the references before it in its select see these
-/// lists: those that are looked up after one of the lists, the last that leaves few, or else those
-/// that it has to see whatever comes before them.
-fn needed_after(
-    alloc: Global,
-    tables: &mut TablesInMemory,
-    conditions: &Conditions,
-    earlier: &PlacedLists,
-) -> Result<Vec<PeriodRow>, Memory>
-    ensures needed { IfOk result (λ rows. (history : History)
-        → TablesRepresent history tables.old
-        → SeesWidth history conditions.now.reference.now conditions.now.width
-        → ArePlaced earlier.now.lists.items earlier.now.places.items conditions.now.start
-        → IsNeededAfter history earlier.now.lists.items conditions.now.conjuncts.now
-        conditions.now.start conditions.now.reference.now rows.items) }
-    ensures same { tables.new ≡ tables.old }
-{
-    let places = earlier.places.as_slice();
-    for i in 0..places.len() {
-        let last = places.len() - 1 - i;
-        let Some(previous) = earlier.lists.get(last) else {
-            continue;
-        };
-        let rows = previous.as_slice();
-        let found = looked_up(alloc, tables, conditions, places[last], rows)?;
-        if let Some(rows) = found {
-            return Ok(rows);
-        }
-    }
-    needed_by(alloc, tables, conditions)
-}
-
-/// Adds to lists, which those before them in a select see, what each of these references has to
-/// see, in their order. The values of the first begin at this position of a combined row.
-fn push_needed_by_each(
-    alloc: Global,
-    tables: &mut TablesInMemory,
-    conjuncts: &[Cond],
-    start: usize,
-    references: &[QueryReference],
-    seen: &mut PlacedLists,
-) -> Result<(), Memory>
-    ensures needed { (history : History) → TablesRepresent history tables.old
-        → AllByRecursion (IsKnown (catalog_of history)) references.now
-        → ArePlaced seen.old.lists.items seen.old.places.items start
-        → OnOk result (AddNeeded
-        (SeeNeeded history conjuncts.now seen.old.lists.items start references.now)
-        seen.old.lists.items seen.new.lists.items) }
-    ensures same { tables.new ≡ tables.old }
-{
-    let [reference, more @ ..] = references else {
-        return Ok(());
-    };
-    let width = reference.kinds.len();
-    let conditions = Conditions {
-        reference,
-        conjuncts,
-        start,
-        width,
-    };
-    let rows = needed_after(alloc, tables, &conditions, seen)?;
-    seen.places.push(start)?;
-    seen.lists.push(Items::from_vec(rows))?;
-    let Some(next) = start.checked_add(width) else {
-        return Err(Memory);
-    };
-    push_needed_by_each(alloc, tables, conjuncts, next, more, seen)
-}
 
 /// Adds to lists what each of the references of a query has to see, in the order of the text.
 fn push_needed_tables(
@@ -143,13 +42,7 @@ fn push_needed_tables(
         Query::Select(select) => {
             let conjuncts = select.conjuncts.as_slice();
             let references = select.references.as_slice();
-            let mut seen = PlacedLists {
-                places: Vec::new(alloc),
-                lists: Vec::new(alloc),
-            };
-            push_needed_by_each(alloc, tables, conjuncts, 0, references, &mut seen)?;
-            lists.append(&mut seen.lists)?;
-            Ok(())
+            push_needed_by_each(alloc, tables, conjuncts, references, lists)
         }
         Query::Combined(_, left, right) => {
             push_needed_tables(alloc, tables, left, lists)?;

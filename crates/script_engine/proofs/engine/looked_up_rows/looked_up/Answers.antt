@@ -1,4 +1,4 @@
-use Rattle.std.proofs.Common.{◌≡◌, ◌+◌, ◌++◌, ◌∷◌, ◌∙◌, [], List, ap, map, subst, sym, take}
+use Rattle.std.proofs.Common.{◌≡◌, ◌+◌, ◌++◌, ◌∷◌, ◌∙◌, [], List, ap, map, refl, subst, sym, take}
 use Rattle.std.proofs.lemmas.List.{take_all, take_more}
 use Rattle.history_model.specs.OrdinaryQuery.{VisibleInHistory}
 use Rattle.period_core.specs.declared.row.PeriodRow.{PeriodRow}
@@ -14,7 +14,7 @@ use Rattle.script_engine.proofs.engine.looked_up_rows.looked_up.Goals as goal
 
 pub loop-row-init : goal.loop-row-init
 loop-row-init c = record {
-  same = c.rows_left.ensures.same;
+  same = refl;
   needed = λ history represents wide.
       subst (IsPrunedAfter (HaveRowFrom [] c.args.at) c.args.conditions.now.conjuncts.now c.args.conditions.now.start (λ day. VisibleInHistory history day c.args.conditions.now.reference.now)) (sym c.new-rows.ensures.items)
       (read_after_none history c.args.conditions.now.conjuncts.now c.args.conditions.now.start c.args.at c.args.conditions.now.reference.now);
@@ -26,7 +26,7 @@ loop-row-preserved c =
     let start = c.args.conditions.now.start in
     let width = c.args.conditions.now.width in
     let reference = c.args.conditions.now.reference.now in
-    let tables = c.rows_left-in-loop-row.new.self in
+    let tables = c.rows_left.new.self in
     let previous : List PeriodRow = c.args.previous.now in
     let i = c.loop-row.row-index in
     let row : PeriodRow = c.row-item.result in
@@ -36,7 +36,7 @@ loop-row-preserved c =
     let next : take (i + 1) previous ≡ take i previous ++ row ∷ [] =
     take_more previous i row c.loop-row-test.true ∙ ap (λ (r : PeriodRow). take i previous ++ r ∷ []) (sym c.row-item.is) in
     let at = c.args.at in
-    let kept = c.rows_left-in-loop-row.ensures.same ∙ c.loop-row.invariant.same in
+    let kept = c.rows_left.ensures.same ∙ c.loop-row.invariant.same in
     let within : IsRangeAfter conjuncts row.values at start width access.rows.positions access.rows.range =
     subst (λ (rows : RowRange). IsRangeAfter conjuncts row.values at start width rows.positions rows.range) (sym c.of-access.ensures.rows)
     (subst (λ (values : List Value). IsRangeAfter conjuncts values at start width c.in_ok-left.left.positions c.in_ok-left.left.range) c.as_slice-known.ensures c.in_ok-left.ensures.left) in

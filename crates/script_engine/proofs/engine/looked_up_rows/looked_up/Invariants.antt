@@ -8,6 +8,6 @@ use Rattle.script_engine.proofs.engine.looked_up_rows.looked_up.Given as goal
 abbrev pub invariant-loop-row : goal.invariant-loop-row
 invariant-loop-row l = record {
   same : l.tables ≡ l.fn.tables;
-  needed : (history : History) → TablesRepresent history l.fn.tables → SeesWidth history l.reference l.width
-      → IsPrunedAfter (HaveRowFrom (take l.row-index l.previous) l.at) l.conjuncts l.start (λ day. VisibleInHistory history day l.reference) l.rows.items;
+  needed : (history : History) → TablesRepresent history l.fn.tables → SeesWidth history l.reference l.conditions.width
+      → IsPrunedAfter (HaveRowFrom (take l.row-index l.previous) l.at) l.conditions.conjuncts.now l.conditions.start (λ day. VisibleInHistory history day l.reference) l.rows.items;
 }

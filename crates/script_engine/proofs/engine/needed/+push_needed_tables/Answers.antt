@@ -1,4 +1,4 @@
-use Rattle.std.proofs.Common.{◌≡◌, ◌∙◌, [], List, ap, ap₂, subst, subst₂, sym}
+use Rattle.std.proofs.Common.{◌≡◌, ◌∙◌, List, ap, ap₂, subst, sym}
 use Rattle.std.specs.List.{AllByRecursion}
 use Rattle.std.specs.Prelude.{OnOk, Result, Ok, Err}
 use Rattle.sql_statements.specs.declared.tree.Tree.{Tree}
@@ -6,35 +6,28 @@ use Rattle.catalog_core.specs.declared.condition.CompareValues.{CompareValues}
 use Rattle.catalog_core.specs.declared.query.resolved.Query as code
 use Rattle.catalog_core.specs.declared.query.resolved.QueryReference.{QueryReference}
 use Rattle.catalog_core.specs.query.Queries.{Query, both, plain_query, references_of}
-use Rattle.period_core.specs.declared.row.PeriodRow.{PeriodRow}
 use Rattle.history_model.specs.Histories.{catalog_of}
 use Rattle.script_engine.specs.engine.Answering.{IsKnown}
-use Rattle.script_engine.specs.engine.Needed.{AddNeeded, ArePlaced, IsNeededBy, SeeNeeded}
+use Rattle.script_engine.specs.engine.Needed.{AddNeeded, AreNeeded, IsNeededBy}
 use Rattle.script_engine.specs.engine.Stored.{TablesRepresent}
-use Rattle.script_engine.proofs.Needed.{added_behind, added_both, known_sides, no_lists_placed}
+use Rattle.script_engine.proofs.Needed.{added_both, known_sides}
 use Rattle.script_engine.proofs.engine.needed.+push_needed_tables.Goals as goal
 
 on_ok : {X E : Type 0} (r : Result X E) (P Q : Type 0) → (P → Q) → OnOk r P → OnOk r Q
 on_ok (Ok x) P Q more h = more h
 on_ok (Err e) P Q more h = h
 
-pub returns-in_ok-append-in-Select-clause-needed : goal.returns-in_ok-append-in-Select-clause-needed
-returns-in_ok-append-in-Select-clause-needed t c history represents known =
+pub returns-in-Select-clause-needed : goal.returns-in-Select-clause-needed
+returns-in-Select-clause-needed t c history represents known =
     let old = c.args.lists.now.items in
-    let seen = c.push_needed_by_each.new.seen.lists.items in
-    let new = c.append.new.self.items in
+    let new = c.push_needed_by_each.new.lists.items in
     let select = c.in-Select.select in
     let of : references_of (plain_query c.args.query.now) ≡ c.as_slice-references.result.now = ap (λ (q : code.Query). references_of (plain_query q)) c.in-Select.is ∙ sym c.as_slice-references.ensures.value in
     let each : AllByRecursion (IsKnown (catalog_of history)) c.as_slice-references.result.now = subst (AllByRecursion (IsKnown (catalog_of history))) of known in
-    let none : List (List PeriodRow) = c.new-in-Select.result.items in
-    let placed : ArePlaced none c.new.result.items 0 = subst₂ (λ ls ps. ArePlaced ls ps 0) (sym c.new-in-Select.ensures.items) (sym c.new.ensures.items) no_lists_placed in
-    let given : AddNeeded (SeeNeeded history c.as_slice-conjuncts.result.now none 0 c.as_slice-references.result.now) none seen = c.in_ok-push_needed_by_each-in-Select.ensures.needed history represents each placed in
-    let its : AddNeeded (SeeNeeded history select.conjuncts [] 0 select.references) none seen =
-    subst (λ (cs : List (Tree CompareValues)). AddNeeded (SeeNeeded history cs [] 0 select.references) none seen) c.as_slice-conjuncts.ensures
-    (subst (λ (rs : List QueryReference). AddNeeded (SeeNeeded history c.as_slice-conjuncts.result.now [] 0 rs) none seen) c.as_slice-references.ensures.value
-    (subst (λ (earlier : List (List PeriodRow)). AddNeeded (SeeNeeded history c.as_slice-conjuncts.result.now earlier 0 c.as_slice-references.result.now) none seen) c.new-in-Select.ensures.items given)) in
-    subst (λ (q : code.Query). AddNeeded (IsNeededBy history (plain_query q)) old new) (sym c.in-Select.is)
-    (added_behind (SeeNeeded history select.conjuncts [] 0 select.references) old none seen new c.new-in-Select.ensures.items its c.in_ok-append-in-Select.ensures.items)
+    subst (λ (q : code.Query). OnOk c.push_needed_by_each.result (AddNeeded (IsNeededBy history (plain_query q)) old new)) (sym c.in-Select.is)
+    (subst (λ (cs : List (Tree CompareValues)). OnOk c.push_needed_by_each.result (AddNeeded (AreNeeded history cs select.references) old new)) c.as_slice-conjuncts.ensures
+    (subst (λ (rs : List QueryReference). OnOk c.push_needed_by_each.result (AddNeeded (AreNeeded history c.as_slice-conjuncts.result.now rs) old new)) c.as_slice-references.ensures.value
+    (c.push_needed_by_each.ensures.needed history represents each)))
 
 pub returns-in_ok-push_needed_tables-in-Combined-clause-needed : goal.returns-in_ok-push_needed_tables-in-Combined-clause-needed
 returns-in_ok-push_needed_tables-in-Combined-clause-needed t c history represents known =

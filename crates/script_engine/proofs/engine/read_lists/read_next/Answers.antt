@@ -1,0 +1,20 @@
+use Rattle.std.proofs.Common.{◌∙◌, refl, subst, sym}
+use Rattle.script_engine.specs.engine.Stored.{TablesRepresent}
+use Rattle.script_engine.proofs.engine.read_lists.read_next.Goals as goal
+
+pub loop-place-init : goal.loop-place-init
+loop-place-init c = record { same = refl; read = λ history represents known starts_are old. old }
+
+pub returns-then-branch-clause-read : goal.returns-then-branch-clause-read
+returns-then-branch-clause-read c = λ history represents known starts_are old.
+    c.in_ok-read_at.ensures.read history (subst (TablesRepresent history) (sym c.loop-place.invariant.same) represents) known starts_are (c.loop-place.invariant.read history represents known starts_are old)
+
+pub loop-place-preserved : goal.loop-place-preserved
+loop-place-preserved c = record {
+  same = c.read_at.ensures.same ∙ c.loop-place.invariant.same;
+  read = λ history represents known starts_are old.
+      c.in_ok-read_at.ensures.read history (subst (TablesRepresent history) (sym c.loop-place.invariant.same) represents) known starts_are (c.loop-place.invariant.read history represents known starts_are old);
+}
+
+pub returns-clause-read : goal.returns-clause-read
+returns-clause-read c = c.loop-place.invariant.read
