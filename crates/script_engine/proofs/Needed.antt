@@ -1,11 +1,12 @@
 -- Needed rows of those that references see are enough: a query gives the same of them.
-use Rattle.std.proofs.Common.{◌≡◌, ◌↔◌, ◌&&◌, ◌==◌, ◌+◌, ◌++◌, ◌∷◌, ◌∙◌, ℕ, ℤ, Bool, true, List, [], None, Option, append_assoc, append-nil, arith, eqb-true, length, length-append, map, refl, set, Some, suc, sym, ap, subst, subst₂, inl, inr, zero}
+use Rattle.std.proofs.Common.{◌≡◌, ◌↔◌, ◌&&◌, ◌==◌, ◌<◌, ◌+◌, ◌++◌, ◌∷◌, ◌∙◌, ℕ, ℤ, Bool, true, List, [], None, Option, append_assoc, append-nil, arith, eqb-true, length, length-append, map, refl, set, Some, suc, sym, ap, subst, subst₂, inl, inr, zero}
 use Rattle.std.specs.Prelude.{slice_get, slice_index_or}
 use Rattle.std.specs.List.{AllByRecursion, AllZip, Contains, list_all}
 use Rattle.std.specs.List.Sorted.{IsPermutation}
-use Rattle.std.proofs.lemmas.Bool.{and_parts}
+use Rattle.std.specs.Option.{is_some}
+use Rattle.std.proofs.lemmas.Bool.{and_parts, cases_lt}
 use Rattle.std.proofs.lemmas.Bool.Decides.{nat_tests}
-use Rattle.std.proofs.lemmas.List.{length-map}
+use Rattle.std.proofs.lemmas.List.{length-map, length-set}
 use Rattle.std.proofs.lemmas.Slice.Zip.{AllZip-long}
 use Rattle.std.proofs.lemmas.List.Sorted.{Contains-permutation, IsPermutation-sym}
 use Rattle.sqlite_trees.proofs.ListLemmas.{IsPermutation-filter, all-append, all_both, filter-map}
@@ -37,7 +38,7 @@ use Rattle.version_store.specs.RowValues.{are_of_columns, is_of_column}
 use Rattle.version_store.specs.Scans.{seen_of}
 use Rattle.ended_versions.specs.Packed.{seen_through}
 use Rattle.script_engine.specs.engine.Answering.{AreRowsSeen, IsKnown, IsOfCatalog, SeesRows}
-use Rattle.script_engine.specs.engine.Needed.{AddNeeded, AreNeeded, AreRead, AreSeen, HaveRowFrom, HasReadFrom, InRead, InRows, IsNeeded, IsNeededAfter, IsNeededBy, IsOfRead, IsPrunedAfter, IsSeenIfRead, SeesWidth, starts_from}
+use Rattle.script_engine.specs.engine.Needed.{AddNeeded, AreNeeded, AreRead, AreReadBelow, AreSeen, HaveRowFrom, HasReadFrom, InRead, InRows, IsNeeded, IsNeededAfter, IsNeededBy, IsOfRead, IsPrunedAfter, IsReadIn, IsSeenIfRead, KeepRead, SeesWidth, starts_from}
 use Rattle.script_engine.specs.engine.Stored.{AreOfHistory}
 use Rattle.script_engine.proofs.Answering.{at_length}
 use Rattle.script_engine.proofs.Fits.{all_are, each_among, rows_fit}
@@ -266,6 +267,70 @@ read_at_place history c references starts lists conjuncts others place at width 
     let its : SeesWidth history reference width = subst (SeesWidth history reference) (sym wide) (width_at history references place reference widths there) in
     read_more history conjuncts references lists place at reference rows widths there (subst (λ (l : List ℕ). slice_get l place ≡ Some at) starts_are begins)
     (subst₂ (λ (l : List ℕ) (cs : Conditions). IsNeededAfter history l lists cs at reference rows) starts_are same (needed its)) old
+
+-- ---- lists that stay read
+
+no_less : (place : ℕ) → place < 0 → ⊥
+no_less place below = omega (arith, below)
+
+pub kept_same : (lists : List (Option (List PeriodRow))) → KeepRead lists lists
+kept_same lists = (refl, λ place read. read)
+
+pub kept_more : (old middle new : List (Option (List PeriodRow))) → KeepRead old middle → KeepRead middle new → KeepRead old new
+kept_more old middle new (long, keep) (longer, keep_more) = (longer ∙ long, λ place read. keep_more place (keep place read))
+
+pub read_set : (lists : List (Option (List PeriodRow))) (place : ℕ) (rows : List PeriodRow) → place < length lists → IsReadIn (set lists place (Some rows)) place
+read_set [] place rows below = absurd (no_less place below)
+read_set (list ∷ lists) zero rows below = (rows, refl)
+read_set (list ∷ lists) (suc place) rows below = read_set lists place rows (omega (arith, below))
+
+stays_read : (lists : List (Option (List PeriodRow))) (place other : ℕ) (rows its : List PeriodRow) → slice_get lists other ≡ Some (Some its) → IsReadIn (set lists place (Some rows)) other
+stays_read [] place other rows its there = absurd cc
+stays_read (list ∷ lists) zero zero rows its there = (rows, refl)
+stays_read (list ∷ lists) zero (suc other) rows its there = (its, there)
+stays_read (list ∷ lists) (suc place) zero rows its there = (its, there)
+stays_read (list ∷ lists) (suc place) (suc other) rows its there = stays_read lists place other rows its there
+
+pub kept_set : (lists : List (Option (List PeriodRow))) (place : ℕ) (rows : List PeriodRow) → KeepRead lists (set lists place (Some rows))
+kept_set lists place rows = (length-set lists place (Some rows), λ other (its, there). stays_read lists place other rows its there)
+
+-- a list that is there is read
+pub read_there : (lists : List (Option (List PeriodRow))) (place : ℕ) (list : Option (List PeriodRow)) → slice_get lists place ≡ Some list → is_some list ≡ true → IsReadIn lists place
+read_there lists place None there some = absurd cc
+read_there lists place (Some rows) there some = (rows, there)
+
+pub read_below_more : (old new : List (Option (List PeriodRow))) (place : ℕ) → AreReadBelow old place → KeepRead old new → IsReadIn new place → AreReadBelow new (place + 1)
+read_below_more old new place below (long, keep) here other less = elim (cases_lt other place) [
+  | inl before ↦ keep other (below other before)
+  | inr behind ↦ let same : place ≡ other = omega (arith, behind, less) in subst (IsReadIn new) same here
+]
+
+pub none_below : (lists : List (Option (List PeriodRow))) → AreReadBelow lists 0
+none_below lists place below = absurd (no_less place below)
+
+-- the next list is read
+behind_added : (added : List (List PeriodRow)) (list : Option (List PeriodRow)) (rest : List (Option (List PeriodRow))) → slice_get (map Some added ++ list ∷ rest) (length added) ≡ Some list
+behind_added [] list rest = refl
+behind_added (rows ∷ added) list rest = behind_added added list rest
+
+pub next_is_read : (read : List (Option (List PeriodRow))) (added : List (List PeriodRow)) (list : Option (List PeriodRow)) (rest : List (Option (List PeriodRow))) → AreReadBelow read (length read) → read ≡ map Some added ++ list ∷ rest →
+    (rows : List PeriodRow) × (list ≡ Some rows)
+next_is_read read added list rest all split =
+    let sizes = length-append (map Some added) (list ∷ rest) in
+    let long = length-map added Some in
+    let whole = ap length split in
+    let (rows, there) = all (length added) (omega (arith, sizes, long, whole)) in
+    let here : slice_get read (length added) ≡ Some list = ap (λ (l : List (Option (List PeriodRow))). slice_get l (length added)) split ∙ behind_added added list rest in
+    let same : list ≡ Some rows = (let both = sym here ∙ there in cc) in
+    (rows, same)
+
+-- each reference has a start and a list
+starts_long : (start : ℕ) (references : List QueryReference) → length (starts_from start references) ≡ length references
+starts_long start [] = refl
+starts_long start (reference ∷ references) = let rest = starts_long (start + length reference.kinds) references in omega (arith, rest)
+
+pub starts_as_many : (starts : List ℕ) (references : List QueryReference) → starts ≡ starts_from 0 references → length starts ≡ length references
+starts_as_many starts references are = ap length are ∙ starts_long 0 references
 
 -- all are read
 all_seen : (history : History) (references : List QueryReference) (lists : List (List PeriodRow)) → AllZip (IsSeenIfRead history) references (map Some lists) → AllZip (AreSeen history) references lists

@@ -1,7 +1,7 @@
 -- The rows that a query needs of those that its table references see: enough that it gives the
 -- same.
 use Rattle.std.specs.Prelude.{◌≡◌, ◌++◌, ◌+◌, ℕ, ℤ, IsTrue, List, None, Option, Some, [], ◌∷◌}
-use Rattle.std.specs.Prelude.{length}
+use Rattle.std.specs.Prelude.{◌<◌, length, slice_get}
 use Rattle.std.specs.List.{AllByRecursion, AllZip}
 use Rattle.period_core.specs.declared.row.PeriodRow.{PeriodRow}
 use Rattle.period_core.specs.declared.value.Value.{Value}
@@ -148,3 +148,22 @@ ReadMore tables select old new =
     → select.starts.now ≡ starts_from 0 select.references.now
     → AreRead history select.conjuncts.now select.references.now old
     → AreRead history select.conjuncts.now select.references.now new
+
+-- each reference of a select has a start and a list
+abbrev pub HavePlaces : PlacedReferences → List (Option (List PeriodRow)) → Type 0
+HavePlaces select lists =
+    (length select.starts.now ≡ length select.references.now)
+    × (length lists ≡ length select.references.now)
+
+-- the list in a place is read
+abbrev pub IsReadIn : List (Option (List PeriodRow)) → ℕ → Type 0
+IsReadIn lists place = (rows : List PeriodRow) × (slice_get lists place ≡ Some (Some rows))
+
+-- the lists in all places below one are read
+abbrev pub AreReadBelow : List (Option (List PeriodRow)) → ℕ → Type 0
+AreReadBelow lists count = (place : ℕ) → place < count → IsReadIn lists place
+
+-- there are as many lists, and those that were read are still read
+abbrev pub KeepRead : List (Option (List PeriodRow)) → List (Option (List PeriodRow)) → Type 0
+KeepRead old new =
+    (length new ≡ length old) × ((place : ℕ) → IsReadIn old place → IsReadIn new place)

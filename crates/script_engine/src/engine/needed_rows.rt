@@ -1,7 +1,7 @@
 //! The rows that one table reference of a select has to see: those that its conditions leave, or
 //! those that are looked up after a list that another reference sees.
 
-ghost use Rattle.std.specs.Prelude.{◌≡◌, IfOk, IfSome};
+ghost use Rattle.std.specs.Prelude.{◌≡◌, IfOk, IfSome, IsSome, true};
 ghost use Rattle.history_model.specs.Histories.{History};
 ghost use Rattle.period_keys.specs.FixedKeys.{IsRangeWithin};
 ghost use Rattle.script_engine.specs.engine.Needed.{IsNeeded, IsNeededAfter, SeesWidth};
@@ -86,6 +86,7 @@ pub fn needed_after(
         → SeesWidth history conditions.now.reference.now conditions.now.width
         → IsNeededAfter history starts.now lists.now conditions.now.conjuncts.now
         conditions.now.start conditions.now.reference.now rows.items)) }
+    ensures whole { whole ≡ true → IfOk result IsSome }
     ensures same { tables.new ≡ tables.old }
 {
     let reference = conditions.reference;

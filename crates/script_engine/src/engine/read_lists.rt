@@ -2,12 +2,13 @@
 //! read: of those that see few rows first, so that the others are looked up after them.
 
 ghost use Rattle.std.specs.List.{AllByRecursion};
-ghost use Rattle.std.specs.Prelude.{◌≡◌, ◌++◌, IfOk, IfSome, List, None, OnOk, Some, length, map};
-ghost use Rattle.std.specs.Prelude.{slice_get};
+ghost use Rattle.std.specs.Prelude.{◌≡◌, ◌++◌, ◌<◌, IfOk, List, None, OnOk, Some, length, map};
+ghost use Rattle.std.specs.Prelude.{slice_get, true};
 ghost use Rattle.period_core.specs.declared.row.PeriodRow.{PeriodRow as Row};
 ghost use Rattle.history_model.specs.Histories.{History, catalog_of};
 ghost use Rattle.script_engine.specs.engine.Answering.{IsKnown};
-ghost use Rattle.script_engine.specs.engine.Needed.{AddNeeded, AreNeeded, ReadMore, starts_from};
+ghost use Rattle.script_engine.specs.engine.Needed.{AddNeeded, AreNeeded, AreReadBelow, HavePlaces};
+ghost use Rattle.script_engine.specs.engine.Needed.{IsReadIn, KeepRead, ReadMore, starts_from};
 ghost use Rattle.script_engine.specs.engine.Stored.{TablesRepresent};
 
 use crate::engine::conditions::Conditions;
@@ -31,22 +32,22 @@ pub struct PlacedReferences<'a> {
 }
 
 impl<'a> PlacedReferences<'a> {
-    /// The conditions on the rows of a reference, if there are so many.
-    fn conditions_of(&self, place: usize) -> Option<Conditions<'a>>
-        ensures { IfSome result (λ conditions.
-            (conditions.conjuncts.now ≡ self.now.conjuncts.now)
-            × (slice_get self.now.references.now place ≡ Some conditions.reference.now)
-            × (slice_get self.now.starts.now place ≡ Some conditions.start)
-            × (conditions.width ≡ length conditions.reference.now.kinds)) }
+    /// The conditions on the rows of the reference in a place.
+    fn conditions_of(&self, place: usize) -> Conditions<'a>
+        requires references { place < length self.now.references.now }
+        requires starts { place < length self.now.starts.now }
+        ensures conjuncts { result.conjuncts.now ≡ self.now.conjuncts.now }
+        ensures reference { slice_get self.now.references.now place ≡ Some result.reference.now }
+        ensures start { slice_get self.now.starts.now place ≡ Some result.start }
+        ensures width { result.width ≡ length result.reference.now.kinds }
     {
-        let reference = self.references.get(place)?;
-        let start = self.starts.get(place)?;
-        Some(Conditions {
+        let reference = &self.references[place];
+        Conditions {
             reference,
             conjuncts: self.conjuncts,
-            start: *start,
+            start: self.starts[place],
             width: reference.kinds.len(),
-        })
+        }
     }
 }
 
@@ -60,16 +61,18 @@ fn read_at(
     place: usize,
     whole: bool,
 ) -> Result<bool, Memory>
+    requires places { HavePlaces select.now lists.old.items }
+    requires place { place < length select.now.references.now }
     ensures read { OnOk result
         (ReadMore tables.old select.now lists.old.items lists.new.items) }
+    ensures kept { OnOk result (KeepRead lists.old.items lists.new.items) }
+    ensures there { whole ≡ true → OnOk result (IsReadIn lists.new.items place) }
     ensures same { tables.new ≡ tables.old }
 {
-    let Some(conditions) = select.conditions_of(place) else {
+    if lists[place].is_some() {
         return Ok(false);
-    };
-    let Some(None) = lists.get(place) else {
-        return Ok(false);
-    };
+    }
+    let conditions = select.conditions_of(place);
     let seen = lists.as_slice();
     let found = needed_after(alloc, tables, &conditions, select.starts, seen, whole)?;
     let Some(rows) = found else {
@@ -87,8 +90,10 @@ fn read_next(
     lists: &mut Vec<Option<Items<PeriodRow>>>,
     whole: bool,
 ) -> Result<bool, Memory>
+    requires { HavePlaces select.now lists.old.items }
     ensures read { OnOk result
         (ReadMore tables.old select.now lists.old.items lists.new.items) }
+    ensures kept { OnOk result (KeepRead lists.old.items lists.new.items) }
     ensures same { tables.new ≡ tables.old }
 {
     for place in 0..select.references.len() {
@@ -99,16 +104,18 @@ fn read_next(
     Ok(false)
 }
 
-/// Reads one list more: the first of a reference that is looked up after a list, or of whose table
-/// its conditions leave a part, or whose table is small; if there is none, the first that is left.
+/// Reads one list more, if one is left: the first of a reference that is looked up after a list, or
+/// of whose table its conditions leave a part, or whose table is small; or else the first.
 fn read_one_more(
     alloc: Global,
     tables: &mut TablesInMemory,
     select: &PlacedReferences,
     lists: &mut Vec<Option<Items<PeriodRow>>>,
 ) -> Result<(), Memory>
+    requires { HavePlaces select.now lists.old.items }
     ensures read { OnOk result
         (ReadMore tables.old select.now lists.old.items lists.new.items) }
+    ensures kept { OnOk result (KeepRead lists.old.items lists.new.items) }
     ensures same { tables.new ≡ tables.old }
 {
     if read_next(alloc, tables, select, lists, false)? {
@@ -118,21 +125,44 @@ fn read_one_more(
     Ok(())
 }
 
-/// Reads the lists of all references of a select.
+/// Reads the lists of a select but for one, which no other waits for.
+fn read_first(
+    alloc: Global,
+    tables: &mut TablesInMemory,
+    select: &PlacedReferences,
+    lists: &mut Vec<Option<Items<PeriodRow>>>,
+) -> Result<(), Memory>
+    requires { HavePlaces select.now lists.old.items }
+    ensures read { OnOk result
+        (ReadMore tables.old select.now lists.old.items lists.new.items) }
+    ensures kept { OnOk result (KeepRead lists.old.items lists.new.items) }
+    ensures same { tables.new ≡ tables.old }
+{
+    for _more in 1..select.references.len() {
+        read_one_more(alloc, tables, select, lists)?;
+    }
+    Ok(())
+}
+
+/// Reads the lists of a select.
 fn read_each(
     alloc: Global,
     tables: &mut TablesInMemory,
     select: &PlacedReferences,
     lists: &mut Vec<Option<Items<PeriodRow>>>,
 ) -> Result<(), Memory>
+    requires { HavePlaces select.now lists.old.items }
     ensures read { OnOk result
         (ReadMore tables.old select.now lists.old.items lists.new.items) }
+    ensures all { OnOk result
+        (AreReadBelow lists.new.items (length select.now.references.now)) }
+    ensures kept { OnOk result (KeepRead lists.old.items lists.new.items) }
     ensures same { tables.new ≡ tables.old }
 {
-    for _more in 1..select.references.len() {
-        read_one_more(alloc, tables, select, lists)?;
+    read_first(alloc, tables, select, lists)?;
+    for place in 0..select.references.len() {
+        read_at(alloc, tables, select, lists, place, true)?;
     }
-    read_next(alloc, tables, select, lists, true)?;
     Ok(())
 }
 
@@ -166,19 +196,17 @@ fn none_read(
     Ok(lists)
 }
 
-/// Adds lists that are read.
+/// Adds lists, all of which are read.
 fn push_read(
     read: Vec<Option<Items<PeriodRow>>>,
     lists: &mut Vec<Items<PeriodRow>>,
 ) -> Result<(), Memory>
+    requires { AreReadBelow read.items (length read.items) }
     ensures { OnOk result ((added : List (List Row))
         × (read.items ≡ map Some added) × (lists.new.items ≡ lists.old.items ++ added)) }
 {
     for list in read {
-        let Some(rows) = list else {
-            return Err(Memory);
-        };
-        lists.push(rows)?;
+        lists.push(list.unwrap())?;
     }
     Ok(())
 }

@@ -1,19 +1,25 @@
-use Rattle.std.proofs.Common.{List, Option, Some, set, subst, sym}
+use Rattle.std.proofs.Common.{◌<◌, ℕ, List, Option, Some, set, subst, sym}
 use Rattle.period_core.specs.declared.row.PeriodRow.{PeriodRow}
 use Rattle.script_engine.specs.engine.Needed.{AreRead, IsNeededAfter, SeesWidth}
-use Rattle.script_engine.proofs.Needed.{read_at_place}
+use Rattle.script_engine.proofs.Needed.{kept_set, read_at_place, read_set}
 use Rattle.script_engine.proofs.engine.read_lists.read_at.Goals as goal
 
 pub returns-clause-read : goal.returns-clause-read
 returns-clause-read c = λ history represents known starts_are old.
     let select = c.args.select.now in
     let lists : List (Option (List PeriodRow)) = c.args.lists.now.items in
-    let conditions = c.in-Some.conditions in
+    let conditions = c.conditions_of-conditions.result in
     let reference = conditions.reference.now in
-    let rows : List PeriodRow = c.in-Some-found.rows.items in
+    let rows : List PeriodRow = c.in-Some.rows.items in
     let needed : SeesWidth history reference conditions.width → IsNeededAfter history select.starts.now lists conditions.conjuncts.now conditions.start reference rows = λ wide.
     subst (λ (seen : List (Option (List PeriodRow))). IsNeededAfter history select.starts.now seen conditions.conjuncts.now conditions.start reference rows) c.as_slice-seen.ensures.value
-    ((rw c.in-Some-found.is at c.in_ok-found.ensures.needed) history represents wide) in
+    ((rw c.in-Some.is at c.in_ok-found.ensures.needed) history represents wide) in
     subst (λ (l : List PeriodRow). AreRead history select.conjuncts.now select.references.now (set lists c.args.place (Some l))) (sym c.from_vec.ensures)
     (read_at_place history represents.contents select.references.now select.starts.now lists select.conjuncts.now conditions.conjuncts.now c.args.place conditions.start conditions.width reference rows
-    represents.said known starts_are c.in-Some.ensures.0 c.in-Some.ensures.1 c.in-Some.ensures.2 c.in-Some.ensures.3 needed old)
+    represents.said known starts_are c.conditions_of-conditions.ensures.conjuncts c.conditions_of-conditions.ensures.reference c.conditions_of-conditions.ensures.start c.conditions_of-conditions.ensures.width needed old)
+
+pub returns-clause-kept : goal.returns-clause-kept
+returns-clause-kept c = kept_set c.args.lists.now.items c.args.place c.from_vec.result
+
+pub returns-clause-there : goal.returns-clause-there
+returns-clause-there c = λ whole. read_set c.args.lists.now.items c.args.place c.from_vec.result (subst (λ (long : ℕ). c.args.place < long) (sym c.requires.places.1) c.requires.place)
