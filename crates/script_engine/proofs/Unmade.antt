@@ -19,4 +19,5 @@ unmade g store result number plan is = rw is (record {
   distinct = λ usable c stands. tt;
   named = inl refl;
   why = λ usable c stands healthy can. inl refl;
+  healthy = λ usable c stands left room. tt;
 })

@@ -1,41 +1,31 @@
 //! The engine: the statements that it runs over a store.
 
-ghost use Rattle.std.specs.Prelude.{◌≡◌, ◌++◌, ◌<ℤ◌, ◌≤ℤ◌, false, IsPermutation, List, map};
+ghost use Rattle.std.specs.Prelude.{◌≡◌, ◌<ℤ◌, ◌≤ℤ◌, false, IsPermutation};
 ghost use Rattle.std.specs.Prelude.{IfErr, IfOk, OnErr, OnOk, Some, length, ℤ};
-ghost use Rattle.catalog_core.specs.declared.table.TableDef.{TableDef as Definition};
-ghost use Rattle.catalog_core.specs.table.TableWords.{table_of};
 ghost use Rattle.period_core.specs.Moments.{forever};
-ghost use Rattle.period_core.specs.declared.version.VersionRow.{VersionRow as Version};
-ghost use Rattle.period_keys.specs.Versions.{begun};
 ghost use Rattle.period_core.specs.declared.refusal.Refusal.TheVariants.{BadStore};
 ghost use Rattle.sqlite.specs.Held.{state};
-ghost use Rattle.version_tables.specs.Represents.{HaveOwnRowids};
 ghost use Rattle.version_tables.specs.Steps.{IsAsBefore};
-ghost use Rattle.version_tables.specs.Tables.{no_schema};
-ghost use Rattle.version_tables.specs.declared.form.Form.TheVariants.{Seconds};
-ghost use Rattle.version_store.specs.Changed.{CanMake, planned};
 ghost use Rattle.version_store.specs.Contents.{AreRowsOf, Contents};
-ghost use Rattle.version_store.specs.DistinctKeys.{HaveDistinctKeys};
 ghost use Rattle.version_store.specs.GoodStore.{AreGood, IsGoodStore};
-ghost use Rattle.version_store.specs.StoreState.{Changes, FailsForReason, IsFailure};
-ghost use Rattle.version_store.specs.StoreState.{IsOpenRefusal, IsStoreRefusal, IsUsable};
-ghost use Rattle.version_store.specs.StoreState.{SparesOthers, StaysOnErr, StoreRepresents};
-ghost use Rattle.version_store.specs.Written.{IsMovable};
+ghost use Rattle.version_store.specs.StoreState.{IsFailure, IsOpenRefusal, IsStoreRefusal};
+ghost use Rattle.version_store.specs.StoreState.{IsUsable, LeavesHealthy, SparesOthers};
+ghost use Rattle.version_store.specs.StoreState.{StaysOnErr, StoreRepresents};
 ghost use Rattle.history_model.specs.Histories.{Advanced, History, state_at, with_event};
 ghost use Rattle.history_model.specs.Versions.{values_at};
-ghost use Rattle.ended_versions.specs.Packed.{closed_at};
-ghost use Rattle.script_engine.specs.engine.Ended.{HaveClosed, ended_in};
+ghost use Rattle.script_engine.specs.engine.Ended.{ended_in};
 ghost use Rattle.script_engine.specs.engine.EngineState.{store_of};
 ghost use Rattle.script_engine.specs.engine.Faults.{AreConstrained};
 ghost use Rattle.script_engine.specs.engine.Healthy.{FailsOnFault, StatementFailsOnFault};
-ghost use Rattle.script_engine.specs.engine.InMemory.{AreKeysIn, HaveRows, IsSameInMemory, rows_in};
-ghost use Rattle.script_engine.specs.engine.Opens.{Opens};
+ghost use Rattle.script_engine.specs.engine.Healthy.{StatementLeavesHealthy};
+ghost use Rattle.script_engine.specs.engine.InMemory.{IsSameInMemory};
+ghost use Rattle.script_engine.specs.engine.Opens.{IsUnopenedFor, Opens};
 ghost use Rattle.script_engine.specs.engine.Over.{StepOver};
 ghost use Rattle.script_engine.specs.engine.Planned.{IsResolved};
 ghost use Rattle.script_engine.specs.engine.Runs.{IsQuery, MayRefuseMoment, MayRefuseQuery};
 ghost use Rattle.script_engine.specs.engine.Runs.{StepsTo};
-ghost use Rattle.script_engine.specs.engine.Stored.{EngineRepresents, IsBadStore, KeepsOnErr};
-ghost use Rattle.script_engine.specs.engine.Stored.{WasUsable};
+ghost use Rattle.script_engine.specs.engine.Stored.{EngineRepresents, IfRepresents, IsBadStore};
+ghost use Rattle.script_engine.specs.engine.Stored.{KeepsOnErr, WasUsable};
 ghost use Rattle.statement_reports.specs.declared.outcome.Outcome.TheVariants.{Done};
 ghost use Rattle.statement_reports.specs.declared.outcome.Word.TheVariants as word;
 ghost use Rattle.sql_statements.specs.Plain.{plain, plain_query, plain_stored};
@@ -145,19 +135,9 @@ impl<S: Alter> Engine<S> {
         ensures bad { IfErr result (λ failed. IsUsable S.Store failed.1 → failed.0 ≡ BadStore
             → IsBadStore (state S.Store connection).now) }
 
-        // A good store is refused only for memory, or if there was a fault of the database: one
-        // of form 1, which is moved, if its database is healthy and its versions are short. Its
-        // rows have rowids of their own, as the rows of each table have.
-        ensures why { IfErr result (λ failed. IsUsable S.Store failed.1
-            → (good : IsGoodStore AreConstrained (state S.Store connection).now)
-            → (good.form ≡ Seconds → IsMovable (state S.Store connection).now good.contents)
-            → HaveOwnRowids ((state S.Store connection).now.trees 2)
-            → IsFailure S.Store connection failed.1 failed.0) }
-
-        // A new store in a database without tables is refused for these reasons alone too.
-        ensures why_new { IfErr result (λ failed. IsUsable S.Store failed.1
-            → (state S.Store connection).now.schema ≡ no_schema
-            → IsFailure S.Store connection failed.1 failed.0) }
+        // A good store, or a new one, is refused only for memory or a fault of the database.
+        ensures why { IfErr result (λ failed.
+            IsUnopenedFor S.Store connection failed.1 failed.0) }
 
         ensures none { IfErr result (λ failed. IsUsable S.Store failed.1
             → IsAsBefore (state S.Store connection) (state S.Store failed.1)) }
@@ -241,13 +221,11 @@ impl<S: Alter> Engine<S> {
         ensures why { IsUsable S.Store self.new.connection
             → (c : Contents) → StoreRepresents S.Store (store_of self.old) c
             → IfErr result (IsFailure S.Store self.old.connection self.new.connection) }
-        ensures states { IsUsable S.Store self.new.connection
-            → (history : History) → EngineRepresents S.Store history self.old
-            → IfOk result (λ rows. (moment day : ℤ) → moment <ℤ forever
-            → IsPermutation (values_at rows.items moment day) (state_at history moment table day)) }
-        ensures same { IsUsable S.Store self.new.connection
-            → (history : History) → EngineRepresents S.Store history self.old
-            → EngineRepresents S.Store history self.new }
+        ensures states { IfRepresents S.Store self.old self.new (λ history.
+            IfOk result (λ rows. (moment day : ℤ) → moment <ℤ forever → IsPermutation
+            (values_at rows.items moment day) (state_at history moment table day))) }
+        ensures same { IfRepresents S.Store self.old self.new (λ history.
+            EngineRepresents S.Store history self.new) }
         ensures usable { WasUsable S.Store self.old.connection self.new.connection }
         ensures others { SparesOthers S.Store self.old.connection self.new.connection }
         ensures named { IfErr result IsStoreRefusal }
@@ -257,12 +235,11 @@ impl<S: Alter> Engine<S> {
 
     /// Moves the clock to a moment. An `Err` changes nothing: it is 13 for FOREVER, 40 for a
     /// moment before the clock, whatever memory there is, and 61 or 62 for other moments; over a
-    /// healthy database 62 only if there was a fault of it.
+    /// healthy database, which stays healthy, 62 only if there was a fault of it.
     pub fn at(&mut self, moment: Moment) -> Result<(), Refusal>
-        ensures moved { IsUsable S.Store self.new.connection
-            → (history : History) → EngineRepresents S.Store history self.old
-            → OnOk result
-            (EngineRepresents S.Store (with_event history (Advanced moment)) self.new) }
+        ensures moved { IfRepresents S.Store self.old self.new (λ history.
+            OnOk result
+            (EngineRepresents S.Store (with_event history (Advanced moment)) self.new)) }
         ensures later { OnOk result ((self.old.clock ≤ℤ moment) × (moment <ℤ forever)) }
         ensures advanced { OnOk result (self.new.clock ≡ moment) }
         ensures catalog { self.new.catalog ≡ self.old.catalog }
@@ -270,6 +247,7 @@ impl<S: Alter> Engine<S> {
         ensures none_stored { StaysOnErr S.Store self.old.connection self.new.connection result }
         ensures refused { IfErr result (MayRefuseMoment self.old.clock moment) }
         ensures why { FailsOnFault S.Store self.old self.new result 0 }
+        ensures healthy { LeavesHealthy S.Store (store_of self.old) (store_of self.new) result 0 }
         ensures memory { OnErr result (IsSameInMemory self.old self.new) }
         ensures usable { WasUsable S.Store self.old.connection self.new.connection }
         ensures others { SparesOthers S.Store self.old.connection self.new.connection }
@@ -284,12 +262,13 @@ impl<S: Alter> Engine<S> {
     /// Runs an AT. An `Err` changes nothing.
     pub(crate) fn advance(&mut self, moment: ClockMoment) -> Result<Outcome, Refusal>
         ensures done { IfOk result (λ outcome. outcome ≡ Done word.At 0) }
-        ensures step { IsUsable S.Store self.new.connection
-            → (history : History) → EngineRepresents S.Store history self.old
-            → StepsTo S.Store history (statement.at moment) result self.new }
+        ensures step { IfRepresents S.Store self.old self.new (λ history.
+            StepsTo S.Store history (statement.at moment) result self.new) }
         ensures kept { KeepsOnErr S.Store self.old self.new result }
         ensures over { StepOver S.Store self.old (statement.at moment) result self.new }
         ensures why { StatementFailsOnFault S.Store self.old (statement.at moment) result self.new }
+        ensures healthy { StatementLeavesHealthy S.Store self.old (statement.at moment) result
+            self.new }
         ensures others { SparesOthers S.Store self.old.connection self.new.connection }
     {
         self.at(moment.moment())?;
@@ -298,13 +277,14 @@ impl<S: Alter> Engine<S> {
 
     /// Runs a CREATE. An `Err` changes nothing.
     fn create(&mut self, alloc: Global, create: &CreateTable) -> Result<Outcome, Refusal>
-        ensures step { IsUsable S.Store self.new.connection
-            → (history : History) → EngineRepresents S.Store history self.old
-            → StepsTo S.Store history (statement.create create.now) result self.new }
+        ensures step { IfRepresents S.Store self.old self.new (λ history.
+            StepsTo S.Store history (statement.create create.now) result self.new) }
         ensures kept { KeepsOnErr S.Store self.old self.new result }
         ensures over { StepOver S.Store self.old (statement.create create.now) result self.new }
         ensures why { StatementFailsOnFault S.Store self.old (statement.create create.now) result
             self.new }
+        ensures healthy { StatementLeavesHealthy S.Store self.old (statement.create create.now)
+            result self.new }
         ensures others { SparesOthers S.Store self.old.connection self.new.connection }
     {
         let definition = define(alloc, self.store.catalog(), create)?;
@@ -339,15 +319,16 @@ impl<S: Alter> Engine<S> {
         resolved: Result<Change, Refusal>,
     ) -> Result<Outcome, Refusal>
         requires { (s : StatementModel) × IsResolved self.old.catalog.tables s word resolved }
-        ensures step { IsUsable S.Store self.new.connection
-            → (history : History) → EngineRepresents S.Store history self.old
-            → (s : StatementModel) → IsResolved self.old.catalog.tables s word resolved
-            → StepsTo S.Store history s result self.new }
+        ensures step { IfRepresents S.Store self.old self.new (λ history.
+            (s : StatementModel) → IsResolved self.old.catalog.tables s word resolved
+            → StepsTo S.Store history s result self.new) }
         ensures kept { KeepsOnErr S.Store self.old self.new result }
         ensures over { (s : StatementModel) → IsResolved self.old.catalog.tables s word resolved
             → StepOver S.Store self.old s result self.new }
         ensures why { (s : StatementModel) → IsResolved self.old.catalog.tables s word resolved
             → StatementFailsOnFault S.Store self.old s result self.new }
+        ensures healthy { (s : StatementModel) → IsResolved self.old.catalog.tables s word resolved
+            → StatementLeavesHealthy S.Store self.old s result self.new }
         ensures others { SparesOthers S.Store self.old.connection self.new.connection }
     {
         let change = resolved?;
@@ -366,16 +347,15 @@ impl<S: Alter> Engine<S> {
         alloc: Global,
         query: &QueryTree<SelectDistinct>,
     ) -> Result<Outcome, Refusal>
-        ensures step { IsUsable S.Store self.new.connection
-            → (history : History) → EngineRepresents S.Store history self.old
-            → StepsTo S.Store history (statement.sequenced (plain_query query.now)) result
-            self.new }
-        ensures queries { IsUsable S.Store self.new.connection
-            → (history : History) → EngineRepresents S.Store history self.old
-            → IfErr result (MayRefuseQuery S.Store self.old self.new
-            (statement.sequenced (plain_query query.now))) }
+        ensures step { IfRepresents S.Store self.old self.new (λ history.
+            StepsTo S.Store history (statement.sequenced (plain_query query.now)) result self.new) }
+        ensures queries { IfRepresents S.Store self.old self.new (λ history.
+            IfErr result (MayRefuseQuery S.Store self.old self.new
+            (statement.sequenced (plain_query query.now)))) }
         ensures kept { KeepsOnErr S.Store self.old self.new result }
         ensures over { StepOver S.Store self.old
+            (statement.sequenced (plain_query query.now)) result self.new }
+        ensures healthy { StatementLeavesHealthy S.Store self.old
             (statement.sequenced (plain_query query.now)) result self.new }
         ensures others { SparesOthers S.Store self.old.connection self.new.connection }
     {
@@ -386,17 +366,16 @@ impl<S: Alter> Engine<S> {
 
     /// Shows the versions of a stored query. Nothing is changed.
     fn show(&mut self, alloc: Global, query: &StoredQuery) -> Result<Outcome, Refusal>
-        ensures step { IsUsable S.Store self.new.connection
-            → (history : History) → EngineRepresents S.Store history self.old
-            → StepsTo S.Store history (statement.stored (plain_stored query.now)) result
-            self.new }
-        ensures queries { IsUsable S.Store self.new.connection
-            → (history : History) → EngineRepresents S.Store history self.old
-            → IfErr result (MayRefuseQuery S.Store self.old self.new
-            (statement.stored (plain_stored query.now))) }
+        ensures step { IfRepresents S.Store self.old self.new (λ history.
+            StepsTo S.Store history (statement.stored (plain_stored query.now)) result self.new) }
+        ensures queries { IfRepresents S.Store self.old self.new (λ history.
+            IfErr result (MayRefuseQuery S.Store self.old self.new
+            (statement.stored (plain_stored query.now)))) }
         ensures kept { KeepsOnErr S.Store self.old self.new result }
         ensures over { StepOver S.Store self.old (statement.stored (plain_stored query.now)) result
             self.new }
+        ensures healthy { StatementLeavesHealthy S.Store self.old
+            (statement.stored (plain_stored query.now)) result self.new }
         ensures others { SparesOthers S.Store self.old.connection self.new.connection }
     {
         let query = resolve_stored_query(alloc, self.store.catalog(), query)?;
@@ -417,19 +396,20 @@ impl<S: Alter> Engine<S> {
     pub fn execute(&mut self, alloc: Global, statement: &Statement) -> Result<Outcome, Refusal>
         // Whatever history the engine represents, the call is a step of it, and the engine then
         // represents the new one.
-        ensures step { IsUsable S.Store self.new.connection
-            → (history : History) → EngineRepresents S.Store history self.old
-            → StepsTo S.Store history (plain statement.now) result self.new }
+        ensures step { IfRepresents S.Store self.old self.new (λ history.
+            StepsTo S.Store history (plain statement.now) result self.new) }
         ensures kept { KeepsOnErr S.Store self.old self.new result }
 
         // A query is refused with 62 only if there was a fault of the database.
-        ensures queries { IsUsable S.Store self.new.connection
-            → (history : History) → EngineRepresents S.Store history self.old
-            → IsQuery (plain statement.now)
-            → IfErr result (MayRefuseQuery S.Store self.old self.new (plain statement.now)) }
+        ensures queries { IfRepresents S.Store self.old self.new (λ history.
+            IsQuery (plain statement.now)
+            → IfErr result (MayRefuseQuery S.Store self.old self.new (plain statement.now))) }
 
-        // Over a healthy database with room for what the statement adds, 62 comes of a fault alone.
+        // Over a healthy database with room for what the statement adds, 62 comes of a fault alone,
+        // and a statement that is accepted leaves it healthy.
         ensures why { StatementFailsOnFault S.Store self.old (plain statement.now) result
+            self.new }
+        ensures healthy { StatementLeavesHealthy S.Store self.old (plain statement.now) result
             self.new }
 
         // And whatever the database holds:

@@ -15,15 +15,15 @@ ghost use Rattle.version_store.specs.StoreState.{IsUsable, SparesOthers};
 ghost use Rattle.version_tables.specs.Steps.{IsAsBefore};
 ghost use Rattle.history_model.specs.Histories.{History};
 ghost use Rattle.script_engine.specs.engine.EngineState.{EngineState};
-ghost use Rattle.script_engine.specs.engine.Opens.{Opens};
+ghost use Rattle.script_engine.specs.engine.Opens.{IsUnopenedFor, Opens};
 ghost use Rattle.script_engine.specs.engine.Stored.{DatabaseRepresents, EngineRepresents};
-ghost use Rattle.script_engine.specs.engine.Stored.{IsAlwaysUsable, IsBadStore, RepresentsSome};
-ghost use Rattle.script_engine.specs.engine.Stored.{WasUsable};
+ghost use Rattle.script_engine.specs.engine.Stored.{IfRepresents, IsAlwaysUsable, IsBadStore};
+ghost use Rattle.script_engine.specs.engine.Stored.{RepresentsSome, WasUsable};
 ghost use Rattle.script_engine.specs.script.AuditedRuns.{IsAuditedRunFrom, results_of};
 ghost use Rattle.script_engine.specs.script.Listening.{ReceivesAll, StepFront};
 ghost use Rattle.script_engine.specs.script.Script.{IsCutInto, IsRunBy, IsRunFrom};
 ghost use Rattle.script_engine.specs.script.Script.{MayRefuseRun, MayRefuseScript, PieceStepOver};
-ghost use Rattle.script_engine.specs.script.Script.{TextApplies, most_bytes};
+ghost use Rattle.script_engine.specs.script.Script.{ScriptApplies, TextApplies, most_bytes};
 
 pub(crate) mod check;
 pub(crate) mod listener;
@@ -142,10 +142,9 @@ fn run_piece<S: Alter, K: PieceResult<S>, C: Clock>(
     piece: &[TokenSpan],
 ) -> K
     requires { All (IsInScript script.now) piece.now }
-    ensures step { IsUsable S.Store engine.new.connection
-        → (history : History) → EngineRepresents S.Store history engine.old
-        → RepresentsSome S.Store
-        (K.is_step history (lexemes_at script.now piece.now) result) engine.new }
+    ensures step { IfRepresents S.Store engine.old engine.new (λ history.
+        RepresentsSome S.Store (K.is_step history (lexemes_at script.now piece.now) result)
+        engine.new) }
     ensures over { K.is_step_over engine.old (lexemes_at script.now piece.now) result engine.new }
     ensures usable { WasUsable S.Store engine.old.connection engine.new.connection }
     ensures others { SparesOthers S.Store engine.old.connection engine.new.connection }
@@ -179,9 +178,8 @@ fn run_pieces<S: Alter, K: PieceResult<S>, C: Clock, L: Listener<K>>(
         × (length results ≤ length pieces.now)
         × StepFront K.is_step_over engine.old
         (map (spanned (lexemes_at script.now tokens.now)) pieces.now) results result engine.new
-        × (IsUsable S.Store engine.new.connection
-        → (history : History) → EngineRepresents S.Store history engine.old
-        → RepresentsSome S.Store (StepFront K.is_step history
+        × IfRepresents S.Store engine.old engine.new (λ history.
+        RepresentsSome S.Store (StepFront K.is_step history
         (map (spanned (lexemes_at script.now tokens.now)) pieces.now) results result) engine.new) }
     ensures usable { WasUsable S.Store engine.old.connection engine.new.connection }
     ensures others { SparesOthers S.Store engine.old.connection engine.new.connection }
@@ -205,7 +203,8 @@ fn run_pieces<S: Alter, K: PieceResult<S>, C: Clock, L: Listener<K>>(
 /// of its pieces, in order, its result, or with it the audit of its answer. Gives these records,
 /// and the engine as it is then. An `Err` hands the connection back: it is the refusal of the whole
 /// script, of which nothing is run; out of memory; or, of a script that is sound, why the store is
-/// not opened: 60, 61 or 62. It changes nothing.
+/// not opened: 60, 61 or 62. It changes nothing. A sound script over a good store or a new one is
+/// refused only for memory or a fault of the database.
 pub fn run<S: Alter, K: PieceResult<S> + Drop>(
     alloc: Global,
     connection: Connection<S>,
@@ -228,6 +227,8 @@ pub fn run<S: Alter, K: PieceResult<S> + Drop>(
     ensures usable { IfOk result (λ ran. WasUsable S.Store connection ran.1.connection) }
 
     ensures refused { IfErr result (λ failed. MayRefuseRun script.now failed.0) }
+    ensures why { IfErr result (λ failed. NoneApplies (ScriptApplies script.now)
+        → IsUnopenedFor S.Store connection failed.1 failed.0) }
     ensures bad { IfErr result (λ failed. IsUsable S.Store failed.1 → failed.0 ≡ BadStore
         → IsBadStore (state S.Store connection).now) }
     ensures none { IfErr result (λ failed. IsUsable S.Store failed.1
@@ -289,7 +290,7 @@ pub fn run_script<S: Alter + Drop>(
     }
 }
 
-/// Runs a script with an audit of each answer at once, over the rows that were seen for it. The
+/// Runs a script with an audit of each answer at once, over all rows that its references see. The
 /// entries are those of the script's statements, refused ones too, in order. An audit says that
 /// the answer agrees, or is refused for memory; the script continues either way.
 pub fn run_audited<S: Alter + Drop>(

@@ -7,7 +7,8 @@ use Rattle.version_store.specs.Changed.{CanMake, planned}
 use Rattle.version_store.specs.Contents.{Contents}
 use Rattle.version_store.specs.DistinctKeys.{HaveDistinctKeys}
 use Rattle.version_store.specs.StoreState.{Changes, FailsForReason, IsStoreRefusal, IsUsable}
-use Rattle.version_store.specs.StoreState.{SparesOthers, StaysOnErr, StoreRepresents, StoreState}
+use Rattle.version_store.specs.StoreState.{LeavesHealthy, SparesOthers, StaysOnErr}
+use Rattle.version_store.specs.StoreState.{StoreRepresents, StoreState}
 use Rattle.script_engine.specs.engine.Stored.{WasUsable}
 
 -- a plan of the table of a number is made at the clock on Ok, and nothing of it on Err
@@ -26,3 +27,4 @@ pub record MakesPlan {S X : Type 0} (g : Ghosts S) (old new : StoreState S)
   pub named : IfErr result IsStoreRefusal
   pub why : FailsForReason g old new result (length plan.added)
       (CanMake number old.clock plan.ended plan.added)
+  pub healthy : LeavesHealthy g old new result (length plan.added)

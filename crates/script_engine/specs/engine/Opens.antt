@@ -1,14 +1,21 @@
--- The engine that opening a store gives.
-use Rattle.std.specs.Prelude.{◌≡◌, ◌⊎◌, []}
+-- The engine that opening a store gives, and why one is not opened.
+use Rattle.std.specs.Prelude.{◌≡◌, ◌≢◌, ◌≤◌, ◌⊎◌, ℕ, []}
+use Rattle.period_core.specs.Encoding.{greatest_number}
 use Rattle.period_core.specs.Moments.{first_moment}
 use Rattle.sqlite.specs.Held.{Held, state}
 use Rattle.sqlite.specs.Store.{Ghosts}
+use Rattle.period_core.specs.declared.refusal.Refusal.{Refusal}
 use Rattle.history_model.specs.Histories.{History}
+use Rattle.version_tables.specs.Healthy.{IsHealthy}
 use Rattle.version_tables.specs.Making.{HasCounters}
 use Rattle.version_tables.specs.Presence.{HasNoStoreTable}
+use Rattle.version_tables.specs.Represents.{HaveOwnRowids}
+use Rattle.version_tables.specs.Tables.{no_schema}
+use Rattle.version_tables.specs.declared.form.Form.TheVariants.{Seconds}
 use Rattle.version_store.specs.GoodStore.{IsGoodStore}
-use Rattle.version_store.specs.StoreState.{IsCreatedAfter, IsUsable}
+use Rattle.version_store.specs.StoreState.{IsCreatedAfter, IsFailure, IsUsable}
 use Rattle.version_store.specs.StoreState.{OwnTablesAreWellFormed, SparesOthers}
+use Rattle.version_store.specs.Written.{IsMovable}
 use Rattle.script_engine.specs.engine.EngineState.{EngineState}
 use Rattle.script_engine.specs.engine.Faults.{AreConstrained}
 use Rattle.script_engine.specs.engine.Stored.{DatabaseRepresents, EngineRepresents, WasUsable}
@@ -33,6 +40,27 @@ pub record Opens {S : Type 0} (g : Ghosts S) (connection : Held S) (engine : Eng
       → IsCreatedAfter (state g connection) (state g engine.connection)
   pub empty : HasNoStoreTable (state g connection).now.schema
       → (engine.catalog.tables ≡ []) × (engine.clock ≡ first_moment)
+  -- a new store in a database without tables is healthy, with room for as many versions as there
+  -- are numbers; and a store that has tables is as healthy as it was
+  pub healthy_new : IsUsable g engine.connection → (state g connection).now.schema ≡ no_schema
+      → (count : ℕ) → count ≤ greatest_number → IsHealthy count (state g engine.connection).now
+  pub healthy : IsUsable g engine.connection
+      → (history : History) → DatabaseRepresents history (state g connection).now
+      → engine.catalog.tables ≢ [] → (left : ℕ) → IsHealthy left (state g connection).now
+      → IsHealthy left (state g engine.connection).now
   -- the other tables, after the store's, are as they were
   pub others : SparesOthers g connection engine.connection
   pub usable : WasUsable g connection engine.connection
+
+-- why a store is not opened, which leaves the connection so
+pub record IsUnopenedFor {S : Type 0} (g : Ghosts S) (opened left : Held S) (refusal : Refusal)
+    : Type 0 where
+  -- a good one: memory is out, or there was a fault of the database. One of form 1, which is moved,
+  -- is healthy, and its versions are short; its rows have rowids of their own, as the rows of each
+  -- table have
+  pub why : IsUsable g left → (good : IsGoodStore AreConstrained (state g opened).now)
+      → (good.form ≡ Seconds → IsMovable (state g opened).now good.contents)
+      → HaveOwnRowids ((state g opened).now.trees 2) → IsFailure g opened left refusal
+  -- a new one, in a database without tables: for these reasons alone too
+  pub why_new : IsUsable g left → (state g opened).now.schema ≡ no_schema
+      → IsFailure g opened left refusal

@@ -10,9 +10,10 @@ use Rattle.catalog_core.specs.declared.table.TableDef.{TableDef}
 use Rattle.sqlite.specs.Store.{Ghosts}
 use Rattle.version_store.specs.StoreState.{StaysOnErr}
 use Rattle.script_engine.specs.engine.EngineState.{EngineState}
+use Rattle.script_engine.specs.engine.Healthy.{StatementFailsOnFault, StatementLeavesHealthy}
 use Rattle.script_engine.specs.engine.InMemory.{IsSameInMemory}
-use Rattle.script_engine.specs.engine.Runs.{AppliesOver, MayRefuseOver}
-use Rattle.script_engine.specs.engine.Stored.{WasUsable}
+use Rattle.script_engine.specs.engine.Runs.{AppliesOver, MayRefuseOver, StepsTo}
+use Rattle.script_engine.specs.engine.Stored.{IfRepresents, WasUsable}
 use Rattle.statement_reports.specs.declared.outcome.Outcome.{Outcome}
 
 -- the catalog and the clock are as they were
@@ -50,3 +51,16 @@ pub record StepOver {S : Type 0} (g : Ghosts S) (old : EngineState S) (s : State
   pub accepted : OnOk result (AcceptsOver old s new)
   -- the connection was usable before if it is so now
   pub usable : WasUsable g old.connection new.connection
+
+-- a statement that is run over an engine
+pub record RunsOver {S : Type 0} (g : Ghosts S) (old : EngineState S) (s : Statement)
+    (result : Result Outcome Refusal) (new : EngineState S) : Type 0 where
+  -- whatever history the engine represents, it is a step of it
+  pub step : IfRepresents g old new (λ history. StepsTo g history s result new)
+  -- and whatever the database holds, it has such a result
+  pub over : StepOver g old s result new
+  -- over a healthy one, with room for what the statement adds:
+  -- it is refused with 62 for a fault alone
+  pub why : StatementFailsOnFault g old s result new
+  -- accepted, it leaves the database healthy
+  pub healthy : StatementLeavesHealthy g old s result new

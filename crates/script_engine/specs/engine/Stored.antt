@@ -95,6 +95,12 @@ DatabaseRepresents history db =
 abbrev pub IsBadStore : Database → Type 0
 IsBadStore db = (¬ HasNoStoreTable db.schema) × ¬ IsGoodStore AreConstrained db
 
+-- whatever history the engine represented, this is so of it, if the connection is usable in the end
+abbrev pub IfRepresents : {S : Type 0} → Ghosts S → EngineState S → EngineState S
+    → (History → Type 0) → Type 0
+IfRepresents g old new Holds =
+    IsUsable g new.connection → (history : History) → EngineRepresents g history old → Holds history
+
 -- the connection was usable before if it is so now
 abbrev pub WasUsable : {S : Type 0} → Ghosts S → Held S → Held S → Type 0
 WasUsable g old new = IsUsable g new → IsUsable g old

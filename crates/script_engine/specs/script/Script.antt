@@ -15,7 +15,7 @@ use Rattle.sqlite.specs.Store.{Ghosts}
 use Rattle.history_model.specs.Histories.{History, new_database, opened}
 use Rattle.version_store.specs.StoreState.{IsOpenRefusal, IsStoreRefusal}
 use Rattle.script_engine.specs.engine.EngineState.{EngineState}
-use Rattle.script_engine.specs.engine.Over.{StepOver}
+use Rattle.script_engine.specs.engine.Over.{RunsOver}
 use Rattle.script_engine.specs.engine.Runs.{Step}
 use Rattle.statement_reports.specs.declared.outcome.Outcome.{Outcome}
 
@@ -44,10 +44,10 @@ PieceStepBy IsStep old piece result new =
 abbrev pub PieceStep : History → List Lexeme → Result Outcome Refusal → History → Type 0
 PieceStep = PieceStepBy Step
 
--- the step of a piece over an engine, whatever its database holds
+-- the step of a piece over an engine, whatever its database holds, and of a healthy one
 abbrev pub PieceStepOver : {S : Type 0} → Ghosts S → EngineState S → List Lexeme
     → Result Outcome Refusal → EngineState S → Type 0
-PieceStepOver g = PieceStepBy (StepOver g)
+PieceStepOver g = PieceStepBy (RunsOver g)
 
 -- the step of a piece over an engine, with the piece's record: by the result that it has
 abbrev pub KeptStepOver : {S K : Type 0} → Ghosts S → (K → Result Outcome Refusal)

@@ -13,7 +13,7 @@ use Rattle.sql_statements.specs.Trees as statement
 use Rattle.history_model.specs.Histories.{History, clock_of}
 use Rattle.sqlite.specs.Store.{Ghosts}
 use Rattle.script_engine.specs.engine.EngineState.{EngineState}
-use Rattle.script_engine.specs.engine.Over.{StepOver}
+use Rattle.script_engine.specs.engine.Over.{RunsOver}
 use Rattle.script_engine.specs.engine.Runs.{IsQuery, Step}
 use Rattle.script_engine.specs.script.Script.{PieceStep, RunPieces, StepPieces, TextApplies}
 use Rattle.script_engine.specs.declared.script.timed.Timed.{Timed}
@@ -80,10 +80,10 @@ module _ {H : Type 0} (IsAt : H → ℤ → Result Outcome Refusal → H → Typ
 abbrev pub AtStep : History → ℤ → Result Outcome Refusal → History → Type 0
 AtStep history moment = Step history (statement.at moment)
 
--- an AT over an engine, whatever its database holds
+-- an AT over an engine, whatever its database holds, and of a healthy one
 abbrev pub AtStepOver : {S : Type 0} → Ghosts S → EngineState S → ℤ → Result Outcome Refusal
     → EngineState S → Type 0
-AtStepOver g engine moment = StepOver g engine (statement.at moment)
+AtStepOver g engine moment = RunsOver g engine (statement.at moment)
 
 -- a piece at the system's time in a history
 abbrev pub TimedPieceStep : {K : Type 0} → (History → List Lexeme → K → History → Type 0)

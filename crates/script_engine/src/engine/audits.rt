@@ -7,15 +7,15 @@ ghost use Rattle.history_model.specs.Histories.{History, catalog_of};
 ghost use Rattle.history_model.specs.OrdinaryQuery.{InAnswerOn};
 ghost use Rattle.sql_statements.specs.Plain.{plain, plain_query};
 ghost use Rattle.sql_statements.specs.Trees as statement;
-ghost use Rattle.version_store.specs.StoreState.{IsUsable, SparesOthers};
+ghost use Rattle.version_store.specs.StoreState.{SparesOthers};
 ghost use Rattle.script_engine.specs.Headline.{IsSequencedAnswer};
 ghost use Rattle.script_engine.specs.engine.Answering.{IsOfCatalog};
 ghost use Rattle.script_engine.specs.engine.Audits.{AuditedStepsTo, IsAuditOf};
 ghost use Rattle.script_engine.specs.engine.Healthy.{StatementFailsOnFault};
+ghost use Rattle.script_engine.specs.engine.Healthy.{StatementLeavesHealthy};
 ghost use Rattle.script_engine.specs.engine.Over.{StepOver};
 ghost use Rattle.script_engine.specs.engine.Runs.{IsQuery, MayRefuseQuery};
-ghost use Rattle.script_engine.specs.engine.Stored.{EngineRepresents, KeepsOnErr};
-ghost use Rattle.script_engine.specs.engine.Stored.{TablesRepresent};
+ghost use Rattle.script_engine.specs.engine.Stored.{IfRepresents, KeepsOnErr, TablesRepresent};
 
 use crate::engine::Engine;
 use crate::engine::in_memory::TablesInMemory;
@@ -52,17 +52,17 @@ fn audit_of(
 impl<S: Alter> Engine<S> {
     /// Answers a sequenced query, and audits the answer. Nothing is changed.
     fn answer_audited(&mut self, alloc: Global, query: &QueryTree<SelectDistinct>) -> Entry
-        ensures step { IsUsable S.Store self.new.connection
-            → (history : History) → EngineRepresents S.Store history self.old
-            → AuditedStepsTo S.Store history (statement.sequenced (plain_query query.now)) result
-            self.new }
-        ensures queries { IsUsable S.Store self.new.connection
-            → (history : History) → EngineRepresents S.Store history self.old
-            → IfErr result.result (MayRefuseQuery S.Store self.old self.new
-            (statement.sequenced (plain_query query.now))) }
+        ensures step { IfRepresents S.Store self.old self.new (λ history.
+            AuditedStepsTo S.Store history (statement.sequenced (plain_query query.now)) result
+            self.new) }
+        ensures queries { IfRepresents S.Store self.old self.new (λ history.
+            IfErr result.result (MayRefuseQuery S.Store self.old self.new
+            (statement.sequenced (plain_query query.now)))) }
         ensures kept { KeepsOnErr S.Store self.old self.new result.result }
         ensures over { StepOver S.Store self.old (statement.sequenced (plain_query query.now))
             result.result self.new }
+        ensures healthy { StatementLeavesHealthy S.Store self.old
+            (statement.sequenced (plain_query query.now)) result.result self.new }
         ensures others { SparesOthers S.Store self.old.connection self.new.connection }
     {
         let query = match resolve_sequenced(alloc, self.store.catalog(), query) {
@@ -86,20 +86,21 @@ impl<S: Alter> Engine<S> {
     pub fn execute_audited(&mut self, alloc: Global, statement: &Statement) -> Entry
         // Whatever history the engine represents, the call is a step of it, and the engine then
         // represents the new one.
-        ensures step { IsUsable S.Store self.new.connection
-            → (history : History) → EngineRepresents S.Store history self.old
-            → AuditedStepsTo S.Store history (plain statement.now) result self.new }
+        ensures step { IfRepresents S.Store self.old self.new (λ history.
+            AuditedStepsTo S.Store history (plain statement.now) result self.new) }
         ensures kept { KeepsOnErr S.Store self.old self.new result.result }
 
         // A query is refused with 62 only if there was a fault of the database.
-        ensures queries { IsUsable S.Store self.new.connection
-            → (history : History) → EngineRepresents S.Store history self.old
-            → IsQuery (plain statement.now)
-            → IfErr result.result (MayRefuseQuery S.Store self.old self.new (plain statement.now)) }
+        ensures queries { IfRepresents S.Store self.old self.new (λ history.
+            IsQuery (plain statement.now) → IfErr result.result
+            (MayRefuseQuery S.Store self.old self.new (plain statement.now))) }
 
-        // Over a healthy database with room for what the statement adds, 62 comes of a fault alone.
+        // Over a healthy database with room for what the statement adds, 62 comes of a fault alone,
+        // and a statement that is accepted leaves it healthy.
         ensures why { StatementFailsOnFault S.Store self.old (plain statement.now) result.result
             self.new }
+        ensures healthy { StatementLeavesHealthy S.Store self.old (plain statement.now)
+            result.result self.new }
 
         // And whatever the database holds:
         ensures over { StepOver S.Store self.old (plain statement.now) result.result self.new }

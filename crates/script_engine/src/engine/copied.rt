@@ -8,7 +8,7 @@ ghost use Rattle.version_store.specs.StoreState.{IsStoreRefusal, IsUsable, Spare
 ghost use Rattle.history_model.specs.Histories.{History};
 ghost use Rattle.script_engine.specs.engine.Copies.{Holds};
 ghost use Rattle.script_engine.specs.engine.InMemory.{IsSameInMemory};
-ghost use Rattle.script_engine.specs.engine.Stored.{EngineRepresents, WasUsable};
+ghost use Rattle.script_engine.specs.engine.Stored.{EngineRepresents, IfRepresents, WasUsable};
 
 use crate::engine::Engine;
 use period_core::Refusal;
@@ -36,9 +36,8 @@ impl<S: Alter> Engine<S> {
             → result ≡ Err StoreRefusal }
         ensures mode { copy.new.in_transaction ≡ false }
         ensures copy_usable { WasUsable T.Store copy.old copy.new }
-        ensures same { IsUsable S.Store self.new.connection
-            → (history : History) → EngineRepresents S.Store history self.old
-            → EngineRepresents S.Store history self.new }
+        ensures same { IfRepresents S.Store self.old self.new (λ history.
+            EngineRepresents S.Store history self.new) }
         ensures memory { IsSameInMemory self.old self.new }
         ensures usable { WasUsable S.Store self.old.connection self.new.connection }
         ensures others { SparesOthers S.Store self.old.connection self.new.connection }

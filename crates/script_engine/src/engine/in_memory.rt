@@ -1,6 +1,6 @@
 //! The tables in memory: the current versions of each, and those that have ended.
 
-ghost use Rattle.std.specs.Prelude.{◌≡◌, ◌++◌, ◌∷◌, [], IfOk, List, MatchOption, None, OnErr, OnOk};
+ghost use Rattle.std.specs.Prelude.{◌≡◌, ◌++◌, ◌∷◌, [], List, MatchOption, None, OnErr, OnOk};
 ghost use Rattle.std.specs.Prelude.{Some, map};
 ghost use Rattle.catalog_core.specs.create.Lawful.{IsLawful};
 ghost use Rattle.catalog_core.specs.declared.table.TableDef.{TableDef as Definition};

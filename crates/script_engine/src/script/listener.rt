@@ -10,7 +10,7 @@ pub trait Listener<K> {
     ghost hears: { Self → ℕ → K → Bool → Self → Type 0 };
 
     /// Takes the result of the piece of a number, counted from 1. Says whether the run goes on: if
-    /// if not, it ends with this piece.
+    /// not, it ends with this piece.
     fn hear(&mut self, number: u64, kept: K) -> bool
         ensures { hears self.old number kept result self.new };
 }

@@ -1,9 +1,8 @@
 //! Runs of scripts over an engine that is open, with each result passed on as it is done.
 
 ghost use Rattle.std.specs.Prelude.{◌≡◌, IfErr, IfOk, List, OnErr};
-ghost use Rattle.version_store.specs.StoreState.{IsUsable, SparesOthers};
-ghost use Rattle.history_model.specs.Histories.{History};
-ghost use Rattle.script_engine.specs.engine.Stored.{EngineRepresents, RepresentsSome, WasUsable};
+ghost use Rattle.version_store.specs.StoreState.{SparesOthers};
+ghost use Rattle.script_engine.specs.engine.Stored.{EngineRepresents, IfRepresents, WasUsable};
 ghost use Rattle.script_engine.specs.script.Listening.{IsFrontRunBy, ReceivesAll};
 ghost use Rattle.script_engine.specs.script.Script.{MayRefuseScript};
 
@@ -37,9 +36,8 @@ pub fn run_over<S: Alter, K: PieceResult<S>, C: Clock, L: Listener<K>>(
         × ReceivesAll L.hears 1 listener.old results goes_on listener.new
         × ((made : IsFrontRunBy K.is_step_over engine.old script.now results goes_on)
         × (made.last ≡ engine.new))
-        × (IsUsable S.Store engine.new.connection
-        → (history : History) → EngineRepresents S.Store history engine.old
-        → (made : IsFrontRunBy K.is_step history script.now results goes_on)
+        × IfRepresents S.Store engine.old engine.new (λ history.
+        (made : IsFrontRunBy K.is_step history script.now results goes_on)
         × EngineRepresents S.Store made.last engine.new)) }
     ensures refused { IfErr result (MayRefuseScript script.now) }
     ensures none { OnErr result ((engine.new ≡ engine.old) × (listener.new ≡ listener.old)) }

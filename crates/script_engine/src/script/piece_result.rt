@@ -8,9 +8,9 @@ ghost use Rattle.sql_front.specs.Grammar.{IsStatement};
 ghost use Rattle.sql_statements.specs.Lexemes.{Lexeme};
 ghost use Rattle.sql_statements.specs.Plain.{plain};
 ghost use Rattle.history_model.specs.Histories.{History};
-ghost use Rattle.version_store.specs.StoreState.{IsUsable, SparesOthers};
+ghost use Rattle.version_store.specs.StoreState.{SparesOthers};
 ghost use Rattle.script_engine.specs.engine.EngineState.{EngineState};
-ghost use Rattle.script_engine.specs.engine.Stored.{EngineRepresents, RepresentsSome, WasUsable};
+ghost use Rattle.script_engine.specs.engine.Stored.{IfRepresents, RepresentsSome, WasUsable};
 ghost use Rattle.script_engine.specs.script.AuditedRuns.{AuditedPieceStep};
 ghost use Rattle.script_engine.specs.script.Script.{KeptStepOver, PieceStep, PieceStepOver};
 ghost use Rattle.script_engine.specs.script.Script.{TextApplies};
@@ -51,11 +51,10 @@ pub trait PieceResult<S: Alter> {
         clock: &C,
         statement: &Statement,
     ) -> Self
-        ensures step { IsUsable S.Store engine.new.connection
-            → (history : History) → EngineRepresents S.Store history engine.old
-            → (piece : List Lexeme) → NoneApplies (TextApplies piece)
+        ensures step { IfRepresents S.Store engine.old engine.new (λ history.
+            (piece : List Lexeme) → NoneApplies (TextApplies piece)
             → IsStatement piece (plain statement.now)
-            → RepresentsSome S.Store (is_step history piece result) engine.new }
+            → RepresentsSome S.Store (is_step history piece result) engine.new) }
         ensures over { (piece : List Lexeme) → NoneApplies (TextApplies piece)
             → IsStatement piece (plain statement.now)
             → is_step_over engine.old piece result engine.new }

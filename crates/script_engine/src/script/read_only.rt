@@ -1,7 +1,6 @@
 //! Results over a store that is only read: queries are answered, and every other statement is
 //! refused.
 
-ghost use Rattle.std.specs.Prelude.{◌≡◌};
 ghost use Rattle.script_engine.specs.script.ReadOnly.{ReadOnlyPieceStep, ReadOnlyPieceStepOver};
 
 use crate::engine::Engine;

@@ -4,10 +4,10 @@ ghost use Rattle.std.specs.Prelude.{◌≡◌, ◌↔◌, ◌/◌, IsTrue};
 ghost use Rattle.std.specs.Duration.{as_nanos};
 ghost use Rattle.period_core.specs.Moments.{first_moment};
 ghost use Rattle.sql_statements.specs.Plain.{plain};
-ghost use Rattle.history_model.specs.Histories.{History, clock_of};
-ghost use Rattle.version_store.specs.StoreState.{IsUsable, SparesOthers};
+ghost use Rattle.history_model.specs.Histories.{clock_of};
+ghost use Rattle.version_store.specs.StoreState.{SparesOthers};
 ghost use Rattle.script_engine.specs.engine.Runs.{IsQuery};
-ghost use Rattle.script_engine.specs.engine.Stored.{EngineRepresents, RepresentsSome, WasUsable};
+ghost use Rattle.script_engine.specs.engine.Stored.{IfRepresents, RepresentsSome, WasUsable};
 ghost use Rattle.script_engine.specs.script.Timed.{AtStep, AtStepOver, Readies};
 ghost use Rattle.script_engine.specs.script.Timed.{TimedPieceStep, TimedPieceStepOver, is_ahead};
 ghost use Rattle.script_engine.specs.script.Timed.{system_moment};
@@ -108,10 +108,9 @@ fn ready<S: Alter>(
     time: ClockMoment,
     statement: &Statement,
 ) -> Result<(), Refusal>
-    ensures step { IsUsable S.Store engine.new.connection
-        → (history : History) → EngineRepresents S.Store history engine.old
-        → RepresentsSome S.Store (Readies AtStep clock_of time (plain statement.now) history result)
-        engine.new }
+    ensures step { IfRepresents S.Store engine.old engine.new (λ history.
+        RepresentsSome S.Store (Readies AtStep clock_of time (plain statement.now) history result)
+        engine.new) }
     ensures over { Readies (AtStepOver S.Store) (λ state. state.clock) time (plain statement.now)
         engine.old result engine.new }
     ensures usable { WasUsable S.Store engine.old.connection engine.new.connection }

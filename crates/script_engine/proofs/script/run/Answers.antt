@@ -1,4 +1,5 @@
-use Rattle.std.proofs.Common.{◌≡◌, ◌≤◌, ◌+◌, ◌++◌, ◌∙◌, Bool, List, [], ap, inr, length, map, refl, rules, subst, subst₂, sym, vec_capacity, vec_len}
+use Rattle.std.proofs.Common.{◌≡◌, ◌≤◌, ◌+◌, ◌++◌, ◌∙◌, Bool, List, [], ap, inl, inr, length, map, refl, rules, subst, subst₂, sym, vec_capacity, vec_len}
+use Rattle.period_core.specs.declared.refusal.Refusal.TheVariants.{Memory}
 use Rattle.sql_statements.specs.Lexemes.{Lexeme}
 use Rattle.sql_front.specs.Pieces.{spanned}
 use Rattle.sql_front.specs.declared.pieces.Span.{Span}
@@ -71,3 +72,9 @@ returns-in-Err-open-clause-refused g c = inr (c.in-Err-open.ensures.named, c.in-
 pub returns-clause-others : goal.returns-clause-others
 returns-clause-others g c =
     spares_then g.S.Store c.args.connection c.in-Ok-open.engine.connection c.run_pieces.new.engine.connection c.in-Ok-open.ensures.opened.others c.run_pieces.ensures.usable c.run_pieces.ensures.others
+
+-- a sound script is refused for memory alone
+pub returns-in-Err-clause-why : goal.returns-in-Err-clause-why
+returns-in-Err-clause-why g c = λ sound.
+    let memory : c.in-Err.refusal ≡ Memory = elim c.in-Err.ensures.refused [ inl least ↦ absurd (sound c.in-Err.refusal least.applies) | inr memory ↦ memory ] in
+    record { why = λ usable good movable rowids. inl memory; why_new = λ usable empty. inl memory }

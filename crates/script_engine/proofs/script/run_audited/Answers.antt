@@ -3,10 +3,10 @@ use Rattle.script_engine.proofs.PieceSteps.{kept_run, unaudited_run}
 use Rattle.script_engine.proofs.script.run_audited.Goals as goal
 
 pub returns-in-Ok-clause-audited : goal.returns-in-Ok-clause-audited
-returns-in-Ok-clause-audited g c usable history stands = (c.in-Ok.ensures.run (usable c.in-Ok._engine.connection) history stands).0
+returns-in-Ok-clause-audited g c = λ usable history stands. (c.in-Ok.ensures.run (usable c.in-Ok._engine.connection) history stands).0
 
 pub returns-in-Ok-clause-run : goal.returns-in-Ok-clause-run
-returns-in-Ok-clause-run g c usable history stands =
+returns-in-Ok-clause-run g c = λ usable history stands.
     unaudited_run history c.args.script.now c.in-Ok.entries.items (c.in-Ok.ensures.run (usable c.in-Ok._engine.connection) history stands).0
 
 pub returns-in-Ok-clause-over : goal.returns-in-Ok-clause-over

@@ -1,6 +1,7 @@
 use Rattle.std.proofs.Common.{◌≡◌, ◌≤ℤ◌, ℤ, ap, subst}
 use Rattle.std.proofs.lemmas.Result.{err_from_is_err_and}
 use Rattle.sql_statements.specs.Trees as statement
+use Rattle.version_tables.proofs.OwnKeys.{healthy_none}
 use Rattle.script_engine.specs.engine.Runs.{MayRefuseOver}
 use Rattle.script_engine.proofs.OverFacts.{accepted_over, refused_over}
 use Rattle.script_engine.proofs.SameInMemory.{moment_over, not_earlier}
@@ -29,3 +30,8 @@ pub returns-in_err-at-clause-why : goal.returns-in_err-at-clause-why
 returns-in_err-at-clause-why g c =
     let p = err_from_is_err_and c.from_residual.result c.from_residual.ensures.1 in
     rw (p.1, p.2) (λ usable history kept room told. c.in_err-at.ensures.why usable kept.contents kept.stored room.healthy told)
+
+-- ---- the database stays healthy
+
+pub returns-clause-healthy : goal.returns-clause-healthy
+returns-clause-healthy g c = λ usable history kept left room. c.in_ok-at.ensures.healthy usable kept.contents kept.stored left (healthy_none left _ room.healthy)

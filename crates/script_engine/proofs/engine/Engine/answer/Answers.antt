@@ -1,4 +1,4 @@
-use Rattle.std.proofs.Common.{◌≡◌, ◌∙◌, List, ap, inl, refl, subst}
+use Rattle.std.proofs.Common.{◌≡◌, ◌∙◌, List, ap, inl, refl, subst, sym}
 use Rattle.std.proofs.lemmas.Result.{err_from_is_err_and}
 use Rattle.period_core.specs.Leasts.{MayAnswer, NoneApplies}
 use Rattle.sql_statements.specs.Plain.{plain_query}
@@ -16,10 +16,12 @@ use Rattle.script_engine.proofs.Handed.{handed_query, handed_rows, has_the_same}
 use Rattle.script_engine.proofs.Refused.{failed_query}
 use Rattle.script_engine.proofs.OverFacts.{asked_over, untouched_over}
 use Rattle.script_engine.proofs.SameInMemory.{failed_over}
+use Rattle.sqlite.specs.Held.{state}
+use Rattle.version_tables.specs.Healthy.{IsHealthy}
 use Rattle.script_engine.proofs.engine.Engine.answer.Goals as goal
 
 pub returns-clause-step : goal.returns-clause-step
-returns-clause-step g c usable history kept =
+returns-clause-step g c = λ usable history kept.
     let asked = plain_query c.args.query.now in
     let s : Statement = statement.sequenced asked in
     let query = resolved.plain_query c.in_ok-query.query in
@@ -35,7 +37,7 @@ returns-clause-step g c usable history kept =
     found (has_the_same g.S.Store history old kept new same) c.in_ok-answer.ensures.columns (c.in_ok-answer.ensures.right history rows known)
 
 pub returns-in_err-answer-clause-step : goal.returns-in_err-answer-clause-step
-returns-in_err-answer-clause-step g c usable history kept =
+returns-in_err-answer-clause-step g c = λ usable history kept.
     let p = err_from_is_err_and c.from_residual-in_err-answer.result c.from_residual-in_err-answer.ensures.1 in
     rw (p.1, p.2) (let asked = plain_query c.args.query.now in
     let s : Statement = statement.sequenced asked in
@@ -48,14 +50,14 @@ returns-in_err-answer-clause-step g c usable history kept =
     (has_the_same g.S.Store history old kept new same) c.in_err-answer.ensures.named)
 
 pub returns-in_err-query-clause-queries : goal.returns-in_err-query-clause-queries
-returns-in_err-query-clause-queries g c usable history kept =
+returns-in_err-query-clause-queries g c = λ usable history kept.
     let p = err_from_is_err_and c.from_residual.result c.from_residual.ensures.1 in
     rw (p.1, p.2) (let s : Statement = statement.sequenced (plain_query c.args.query.now) in
     let same : c.catalog.result.now.tables ≡ c.args.self.now.catalog.tables = ap (λ (k : Catalog). k.tables) c.catalog.ensures ∙ ap (λ s. s.catalog.tables) c.self.view_is in
     inl (subst (λ (tables : List TableDef). MayAnswer (Holds (query_conditions tables s)) c.in_err-query.field-0.0) same c.in_err-query.ensures.refused))
 
 pub returns-in_err-answer-clause-queries : goal.returns-in_err-answer-clause-queries
-returns-in_err-answer-clause-queries g c usable history kept =
+returns-in_err-answer-clause-queries g c = λ usable history kept.
     let p = err_from_is_err_and c.from_residual-in_err-answer.result c.from_residual-in_err-answer.ensures.1 in
     rw (p.1, p.2) (let asked = plain_query c.args.query.now in
     let s : Statement = statement.sequenced asked in
@@ -97,3 +99,6 @@ returns-in_err-answer-clause-over g c =
     (failed_over old.catalog.tables old.clock s c.in_err-answer.field-0.0
     (subst (λ (k : Catalog). NoneApplies (Holds (query_conditions k.tables s))) catalog c.in_ok-query.ensures.sound)
     c.in_err-answer.ensures.named))
+
+pub returns-clause-healthy : goal.returns-clause-healthy
+returns-clause-healthy g c = λ usable history kept left room. subst (λ (e : EngineState g.row.S.Denot). IsHealthy left (state g.S.Store e.connection).now) (sym c.self.view_is) room.healthy

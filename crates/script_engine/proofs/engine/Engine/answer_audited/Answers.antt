@@ -25,10 +25,12 @@ use Rattle.script_engine.proofs.Refused.{failed_query}
 use Rattle.script_engine.proofs.OverFacts.{asked_over, untouched_over}
 use Rattle.script_engine.proofs.SameInMemory.{failed_over}
 use Rattle.script_engine.proofs.Steps.{tables_of}
+use Rattle.sqlite.specs.Held.{state}
+use Rattle.version_tables.specs.Healthy.{IsHealthy}
 use Rattle.script_engine.proofs.engine.Engine.answer_audited.Goals as goal
 
 pub returns-in-Ok-answer_query-clause-step : goal.returns-in-Ok-answer_query-clause-step
-returns-in-Ok-answer_query-clause-step g c usable history kept =
+returns-in-Ok-answer_query-clause-step g c = λ usable history kept.
     let asked = plain_query c.args.query.now in
     let s : Statement = statement.sequenced asked in
     let query = resolved.plain_query c.in-Ok.query in
@@ -50,7 +52,7 @@ returns-in-Ok-answer_query-clause-step g c usable history kept =
     found (has_the_same g.S.Store history old kept new same) c.in-Ok-answer_query.ensures.columns right)
 
 pub returns-clause-step : goal.returns-clause-step
-returns-clause-step g c usable history kept =
+returns-clause-step g c = λ usable history kept.
     let asked = plain_query c.args.query.now in
     let s : Statement = statement.sequenced asked in
     let old : EngineState g.row.S.Denot = c.args.self.now in
@@ -64,14 +66,14 @@ returns-clause-step g c usable history kept =
     (has_the_same g.S.Store history old kept new same) c.in-Err-answer_query.ensures.named))
 
 pub returns-in-Err-clause-queries : goal.returns-in-Err-clause-queries
-returns-in-Err-clause-queries g c usable history kept =
+returns-in-Err-clause-queries g c = λ usable history kept.
     let s : Statement = statement.sequenced (plain_query c.args.query.now) in
     let same : c.catalog.result.now.tables ≡ c.args.self.now.catalog.tables = ap (λ (k : Catalog). k.tables) c.catalog.ensures ∙ ap (λ s. s.catalog.tables) c.self.view_is in
     subst (λ (entry : Entry). IfErr entry.result (MayRefuseQuery g.S.Store c.args.self.now c.args.self.now s)) (sym c.unaudited.ensures)
     (inl (subst (λ (tables : List TableDef). MayAnswer (Holds (query_conditions tables s)) c.in-Err.refusal) same c.in-Err.ensures.refused))
 
 pub returns-clause-queries : goal.returns-clause-queries
-returns-clause-queries g c usable history kept =
+returns-clause-queries g c = λ usable history kept.
     let asked = plain_query c.args.query.now in
     let s : Statement = statement.sequenced asked in
     let query = resolved.plain_query c.in-Ok.query in
@@ -116,7 +118,7 @@ returns-clause-over g c =
     c.in-Err-answer_query.ensures.named))
 
 pub returns-in-Err-clause-step : goal.returns-in-Err-clause-step
-returns-in-Err-clause-step g c usable history kept =
+returns-in-Err-clause-step g c = λ usable history kept.
     let asked = plain_query c.args.query.now in
     let s : Statement = statement.sequenced asked in
     let old : EngineState g.row.S.Denot = c.args.self.now in
@@ -138,3 +140,6 @@ pub returns-clause-others : goal.returns-clause-others
 returns-clause-others g c =
     subst (λ s. SparesOthers g.S.Store s.connection c.self.inside.store.connection) c.self.view_is
     (spares_same g.S.Store c.self.inside.store.connection c.self.inside.store.connection (λ usable. refl))
+
+pub returns-in-Ok-answer_query-clause-healthy : goal.returns-in-Ok-answer_query-clause-healthy
+returns-in-Ok-answer_query-clause-healthy g c = λ usable history kept left room. subst (λ (e : EngineState g.row.S.Denot). IsHealthy left (state g.S.Store e.connection).now) (sym c.self.view_is) room.healthy

@@ -1,4 +1,4 @@
-use Rattle.std.proofs.Common.{◌≤ℤ◌, ◌<ℤ◌, ap, refl, rules, subst, sym}
+use Rattle.std.proofs.Common.{◌+◌, ◌≤ℤ◌, ◌<ℤ◌, ap, refl, rules, subst, sym}
 use Rattle.period_core.specs.Moments.{forever}
 use Rattle.script_engine.specs.engine.EngineState.{engine_with}
 use Rattle.script_engine.specs.engine.Stored.{EngineRepresents, HasContents}
@@ -23,7 +23,7 @@ use Rattle.script_engine.proofs.Refused.{by_fault}
 use Rattle.script_engine.proofs.engine.Engine.at.Goals as goal
 
 pub returns-in-Some-2-clause-moved : goal.returns-in-Some-2-clause-moved
-returns-in-Some-2-clause-moved g c usable history kept =
+returns-in-Some-2-clause-moved g c = λ usable history kept.
     let was : EngineRepresents g.S.Store history (engine_with c.self.inside.store c.self.inside.tables) = subst (λ s. EngineRepresents g.S.Store history s) (sym c.self.view_is) kept in
     let late : c.self.inside.store.clock ≤ℤ c.args.moment = search rules in
     let before : c.args.moment <ℤ forever = search rules in
@@ -62,3 +62,9 @@ returns-in-Some-2-clause-why g c = λ usable contents stands healthy.
     let sound = subst (λ (e : EngineState g.row.S.Denot). IsHealthy 0 (state g.S.Store e.connection).now) (sym c.self.view_is) healthy in
     subst (λ (e : EngineState g.row.S.Denot). IfErr c.advance.result (λ refusal. refusal ≡ Store → HasFault (state g.S.Store e.connection) (state g.S.Store c.advance.new.self.connection))) c.self.view_is
     (IfErr-weaker c.advance.result _ _ (λ refusal why told. by_fault g.S.Store old.connection c.advance.new.self.connection refusal why told) (c.advance.ensures.why usable contents was sound tt))
+
+pub returns-in-Some-2-clause-healthy : goal.returns-in-Some-2-clause-healthy
+returns-in-Some-2-clause-healthy g c = λ usable contents stands left healthy.
+    let was = subst (λ (e : EngineState g.row.S.Denot). StoreRepresents g.S.Store (store_of e) contents) (sym c.self.view_is) stands in
+    let sound = subst (λ (e : EngineState g.row.S.Denot). IsHealthy (0 + left) (state g.S.Store e.connection).now) (sym c.self.view_is) healthy in
+    c.advance.ensures.healthy usable contents was left sound

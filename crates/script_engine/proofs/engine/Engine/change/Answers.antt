@@ -1,5 +1,5 @@
 use Rattle.std.proofs.lemmas.Result.{IfErr-at_err, err_from_is_err_and}
-use Rattle.std.proofs.Common.{◌≡◌, ◌∙◌, ℕ, List, Ok, Some, ap, inl, inr, length, map, refl, subst, subst₂, sym}
+use Rattle.std.proofs.Common.{◌≡◌, ◌∙◌, ◌+◌, ℕ, List, Ok, Some, ap, arith, inl, inr, length, map, refl, subst, subst₂, sym}
 use Rattle.period_core.specs.Leasts.{MayAnswer}
 use Rattle.catalog_core.specs.RefusalConditions.{Holds}
 use Rattle.statement_resolution.specs.change.Resolution.{change_conditions}
@@ -7,6 +7,7 @@ use Rattle.catalog_core.specs.table.TableWords.{table_of}
 use Rattle.catalog_core.specs.declared.table.TableDef.{TableDef}
 use Rattle.catalog_core.specs.declared.table.catalog.Catalog.{Catalog}
 use Rattle.history_model.specs.Histories.{last_state}
+use Rattle.history_model.specs.HistoryVersions.{versions_of}
 use Rattle.period_keys.specs.Current.{HoldCurrent, rows_by_key}
 use Rattle.period_keys.specs.Lawful.{IsLawfulChange, IsLawfulState}
 use Rattle.period_keys.specs.Planned.{IsPlanOf}
@@ -15,6 +16,7 @@ use Rattle.period_keys.specs.TableRows.{TableRows}
 use Rattle.script_engine.specs.engine.Ended.{HaveEnded}
 use Rattle.script_engine.specs.engine.EngineState.{EngineState, engine_with}
 use Rattle.script_engine.specs.engine.Faults.{IsFault}
+use Rattle.script_engine.specs.engine.Healthy.{added_count}
 use Rattle.script_engine.specs.engine.InMemory.{AreKeysIn, FollowCatalog, rows_in}
 use Rattle.script_engine.specs.engine.Planned.{IsResolved, planned_count, word_of}
 use Rattle.script_engine.specs.engine.Runs.{StepsTo}
@@ -39,7 +41,7 @@ use Rattle.script_engine.proofs.Steps.{tables_of}
 use Rattle.script_engine.proofs.engine.Engine.change.Goals as goal
 
 pub returns-in_err-change-clause-step : goal.returns-in_err-change-clause-step
-returns-in_err-change-clause-step g c usable history kept s is =
+returns-in_err-change-clause-step g c = λ usable history kept s is.
     let p = err_from_is_err_and c.from_residual.result c.from_residual.ensures.1 in
     rw (p.1, p.2) (unresolved_step g.S.Store history c.args.self.now s is.form kept c.in_err-change.field-0.0
     (IfErr-at_err (MayAnswer (Holds (change_conditions c.args.self.now.catalog.tables s))) c.in_err-change.was is.refused))
@@ -75,7 +77,7 @@ apply-requires-clause-keys g c =
     subst (λ (ts : List TableRows). AreKeysIn (map rows_by_key ts) c.in_ok-change.change.table c.in_ok-made.made.plan.added c.in_ok-made.made.keys.items) c.current.ensures c.in_ok-made.ensures.keys
 
 pub returns-in_err-made-clause-step : goal.returns-in_err-made-clause-step
-returns-in_err-made-clause-step g c usable history kept s is =
+returns-in_err-made-clause-step g c = λ usable history kept s is.
     let p = err_from_is_err_and c.from_residual-in_err-made.result c.from_residual-in_err-made.ensures.1 in
     rw (p.1, p.2) (let change = c.in_ok-change.change in
     let refusal = c.in_err-made.field-0.0 in
@@ -252,8 +254,25 @@ returns-in_err-apply-clause-why g c =
     (subst (λ (k : Catalog). IsLawfulState k.tables (last_state history)) (sym judged) (lawful_before g.S.Store history old s known.form kept))
     (subst₂ (λ (k : Catalog) (ts : List RowsByKey). HoldCurrent k.tables (last_state history) ts) (sym judged) (sym tables) (hold_before g.S.Store history old s known.form kept))) in
     let healthy = room.versions change (subst (λ (ts : List TableDef). ResolvesChange ts s change) (tables_of g.S.Store history old kept) known.change) in
-    let sound : IsHealthy (length plan.added) db = subst (λ (n : ℕ). IsHealthy n db) (sym (counted_added g.S.Store history old s kept change plan of)) healthy in
+    let count : added_count change.action (versions_of history change.table) + 0 ≡ length plan.added = omega (arith, counted_added g.S.Store history old s kept change plan of) in
+    let sound : IsHealthy (length plan.added) db = subst (λ (n : ℕ). IsHealthy n db) count healthy in
     let apart = keys_of db kept.contents kept.stored.now sound.sound in
     by_fault g.S.Store old.connection new.connection refusal
     (c.in_err-apply.ensures.stored.why usable kept.contents kept.stored sound
     (can_make g.S.Store history old s kept change plan of known.sound known.change apart allowed)) told)
+
+-- ---- the database stays healthy
+
+pub returns-clause-healthy : goal.returns-clause-healthy
+returns-clause-healthy g c = rw (← c.self.view_is) (λ s is usable history kept left room.
+    let change = c.in_ok-change.change in
+    let plan = c.in_ok-made.made.plan in
+    let old : EngineState g.row.S.Denot = engine_with c.self.inside.store c.self.inside.tables in
+    let db : Database = (state g.S.Store old.connection).now in
+    let known : IsResolved old.catalog.tables s c.args.word (Ok change) = subst (IsResolved old.catalog.tables s c.args.word) c.in_ok-change.was is in
+    let tables : map rows_by_key c.current.result.now ≡ old.tables = ap (map rows_by_key) c.current.ensures in
+    let of : IsPlanOf change.action (rows_in old.tables change.table) plan =
+    subst (λ (ts : List RowsByKey). IsPlanOf change.action (rows_in ts change.table) plan) tables c.in_ok-made.ensures.plan in
+    let healthy = room.versions change (subst (λ (ts : List TableDef). ResolvesChange ts s change) (tables_of g.S.Store history old kept) known.change) in
+    let sound : IsHealthy (length plan.added + left) db = subst (λ (n : ℕ). IsHealthy (n + left) db) (sym (counted_added g.S.Store history old s kept change plan of)) healthy in
+    c.in_ok-apply.ensures.stored.healthy usable kept.contents kept.stored left sound)

@@ -23,7 +23,7 @@ returns-clause-copied g c usable copy_usable history kept =
     (c.copy_into.ensures.copied usable copy_usable m tabled was.stored)
 
 pub returns-clause-same : goal.returns-clause-same
-returns-clause-same g c usable history kept =
+returns-clause-same g c = λ usable history kept.
     let was : EngineRepresents g.S.Store history (engine_with c.self.inside.store c.self.inside.tables) = subst (λ s. EngineRepresents g.S.Store history s) (sym c.self.view_is) kept in
     record { contents = was.contents; stored = c.copy_into.ensures.same usable was.contents was.stored; said = was.said; current = was.current; ended = was.ended }
 

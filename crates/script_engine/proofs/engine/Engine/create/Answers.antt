@@ -31,6 +31,7 @@ use Rattle.script_engine.proofs.SameInMemory.{failed_over, list_memory}
 use Rattle.history_model.specs.Histories.{catalog_of}
 use Rattle.period_core.specs.declared.refusal.Refusal.TheVariants.{Store}
 use Rattle.sqlite.specs.Held.{state}
+use Rattle.version_tables.proofs.OwnKeys.{healthy_none}
 use Rattle.version_tables.specs.Healthy.{IsHealthy}
 use Rattle.version_tables.specs.Steps.{HasFault}
 use Rattle.script_engine.proofs.OnFault.{created_otherwise}
@@ -43,7 +44,7 @@ abbrev without_rows : TableDef → RowsByKey
 without_rows definition = record { positions = key_positions definition; rows = [] }
 
 pub returns-in_err-definition-clause-step : goal.returns-in_err-definition-clause-step
-returns-in_err-definition-clause-step g c usable history kept =
+returns-in_err-definition-clause-step g c = λ usable history kept.
     let p = err_from_is_err_and c.from_residual.result c.from_residual.ensures.1 in
     rw (p.1, p.2) (let same : c.catalog.result.now.tables ≡ c.args.self.now.catalog.tables = ap (λ (k : Catalog). k.tables) c.catalog.ensures ∙ ap (λ s. s.catalog.tables) c.self.view_is in
     unmade_step g.S.Store history c.args.self.now c.args.create.now c.in_err-definition.field-0.0 kept
@@ -62,7 +63,7 @@ add_table-requires-clause-room g c =
     subst (λ (k : Catalog). length k.tables < most_tables) c.catalog.ensures (few_tables c.catalog.result.now.tables c.args.create.now c.in_ok-definition.ensures.sound)
 
 pub returns-in-Ok-clause-step : goal.returns-in-Ok-clause-step
-returns-in-Ok-clause-step g c usable history kept =
+returns-in-Ok-clause-step g c = λ usable history kept.
     let ts : List RowsByKey = map rows_by_key c.self.inside.tables.current in
     let old : EngineState g.row.S.Denot = engine_with c.self.inside.store c.self.inside.tables in
     let new : EngineState g.row.S.Denot = engine_with c.add_table.new.self c.add.new.self in
@@ -83,7 +84,7 @@ returns-in-Ok-clause-step g c usable history kept =
     })
 
 pub returns-in-Err-clause-step : goal.returns-in-Err-clause-step
-returns-in-Err-clause-step g c usable history kept =
+returns-in-Err-clause-step g c = λ usable history kept.
     let ts : List RowsByKey = map rows_by_key c.self.inside.tables.current in
     let old : EngineState g.row.S.Denot = engine_with c.self.inside.store c.self.inside.tables in
     let new : EngineState g.row.S.Denot = engine_with c.add_table.new.self c.remove_last.new.self in
@@ -184,3 +185,12 @@ returns-in-Err-clause-why g c = λ usable history kept room.
     subst (λ (e : EngineState g.row.S.Denot). c.in-Err.refusal ≡ Store → HasFault (state g.S.Store e.connection) (state g.S.Store c.add_table.new.self.connection)) c.self.view_is
     (by_fault g.S.Store old.connection c.add_table.new.self.connection c.in-Err.refusal
     (c.in-Err.ensures.why usable was.contents was.stored sound (room.definition create refl definition defined)))
+
+-- ---- the database stays healthy
+
+pub returns-in-Ok-clause-healthy : goal.returns-in-Ok-clause-healthy
+returns-in-Ok-clause-healthy g c = λ usable history kept left room.
+    let old : EngineState g.row.S.Denot = engine_with c.self.inside.store c.self.inside.tables in
+    let was : EngineRepresents g.S.Store history old = subst (λ s. EngineRepresents g.S.Store history s) (sym c.self.view_is) kept in
+    let sound = subst (λ (e : EngineState g.row.S.Denot). IsHealthy left (state g.S.Store e.connection).now) (sym c.self.view_is) room.healthy in
+    c.in-Ok.ensures.healthy usable was.contents was.stored left (healthy_none left _ sound)

@@ -17,29 +17,29 @@ use Rattle.script_engine.specs.engine.Stored.{EngineRepresents, KeepsOnErr}
 use Rattle.script_engine.specs.engine.Runs.{IsQuery, MayRefuseQuery}
 use Rattle.script_engine.proofs.Resolved.{resolved_delete, resolved_insert, resolved_update}
 use Rattle.std.proofs.lemmas.Result.{IfErr-weaker}
-use Rattle.script_engine.specs.engine.Healthy.{StatementFailsOnFault}
+use Rattle.script_engine.specs.engine.Healthy.{StatementFailsOnFault, StatementLeavesHealthy}
 use Rattle.script_engine.proofs.OnFault.{asked_by_fault}
 use Rattle.script_engine.proofs.engine.Engine.execute.Goals as goal
 
 pub returns-in-Sequenced-clause-step : goal.returns-in-Sequenced-clause-step
-returns-in-Sequenced-clause-step g c usable history kept =
+returns-in-Sequenced-clause-step g c = λ usable history kept.
     let said : statement.sequenced (plain_query c.in-Sequenced.query) ≡ plain c.args.statement.now =
     ap plain_form (sym c.in-Sequenced.is) ∙ c.form.ensures in
     subst (λ (s : Statement). StepsTo g.S.Store history s c.answer.result c.answer.new.self) said (c.answer.ensures.step usable history kept)
 
 pub returns-in-At-clause-step : goal.returns-in-At-clause-step
-returns-in-At-clause-step g c usable history kept =
+returns-in-At-clause-step g c = λ usable history kept.
     let said : statement.at c.in-At.moment ≡ plain c.args.statement.now = ap plain_form (sym c.in-At.is) ∙ c.form.ensures in
     subst (λ (s : Statement). StepsTo g.S.Store history s c.advance.result c.advance.new.self) said (c.advance.ensures.step usable history kept)
 
 pub returns-in-Create-clause-step : goal.returns-in-Create-clause-step
-returns-in-Create-clause-step g c usable history kept =
+returns-in-Create-clause-step g c = λ usable history kept.
     let said : statement.create c.table.result.now ≡ plain c.args.statement.now =
     ap statement.create c.table.ensures.value ∙ ap plain_form (sym c.in-Create.is) ∙ c.form.ensures in
     subst (λ (s : Statement). StepsTo g.S.Store history s c.create.result c.create.new.self) said (c.create.ensures.step usable history kept)
 
 pub returns-in-Stored-clause-step : goal.returns-in-Stored-clause-step
-returns-in-Stored-clause-step g c usable history kept =
+returns-in-Stored-clause-step g c = λ usable history kept.
     let said : statement.stored (plain_stored c.in-Stored.query) ≡ plain c.args.statement.now = ap plain_form (sym c.in-Stored.is) ∙ c.form.ensures in
     subst (λ (s : Statement). StepsTo g.S.Store history s c.show.result c.show.new.self) said (c.show.ensures.step usable history kept)
 
@@ -53,7 +53,7 @@ change-requires g c =
     (plain c.args.statement.now, known)
 
 pub returns-in-Insert-clause-step : goal.returns-in-Insert-clause-step
-returns-in-Insert-clause-step g c usable history kept =
+returns-in-Insert-clause-step g c = λ usable history kept.
     let r : Result Change Refusal = c.resolve_insert-resolved.result in
     let same : c.catalog.result.now.tables ≡ c.args.self.now.catalog.tables = ap (λ (k : Catalog). k.tables) c.catalog.ensures in
     let said : statement.insert c.in-Insert.insert ≡ plain c.args.statement.now = ap plain_form (sym c.in-Insert.is) ∙ c.form.ensures in
@@ -80,7 +80,7 @@ change-requires-in-Update g c =
     (plain c.args.statement.now, subst (λ (e : EngineState g.row.S.Denot). IsResolved e.catalog.tables (plain c.args.statement.now) word.Update r) (sym c.prepare.ensures) known)
 
 pub returns-in-Update-clause-step : goal.returns-in-Update-clause-step
-returns-in-Update-clause-step g c usable history kept =
+returns-in-Update-clause-step g c = λ usable history kept.
     let r : Result Change Refusal = c.resolve_update-resolved.result in
     let same : c.catalog-in-Update.result.now.tables ≡ c.args.self.now.catalog.tables = ap (λ (k : Catalog). k.tables) c.catalog-in-Update.ensures in
     let said : statement.update (plain_update c.in-Update.update) ≡ plain c.args.statement.now = ap plain_form (sym c.in-Update.is) ∙ c.form.ensures in
@@ -109,7 +109,7 @@ change-requires-in-Delete g c =
     (plain c.args.statement.now, subst (λ (e : EngineState g.row.S.Denot). IsResolved e.catalog.tables (plain c.args.statement.now) word.Delete r) (sym c.prepare-in-Delete.ensures) known)
 
 pub returns-in-Delete-clause-step : goal.returns-in-Delete-clause-step
-returns-in-Delete-clause-step g c usable history kept =
+returns-in-Delete-clause-step g c = λ usable history kept.
     let r : Result Change Refusal = c.resolve_delete-resolved.result in
     let same : c.catalog-in-Delete.result.now.tables ≡ c.args.self.now.catalog.tables = ap (λ (k : Catalog). k.tables) c.catalog-in-Delete.ensures in
     let said : statement.delete (plain_delete c.in-Delete.delete) ≡ plain c.args.statement.now = ap plain_form (sym c.in-Delete.is) ∙ c.form.ensures in
@@ -149,29 +149,29 @@ returns-in-Stored-clause-over g c =
     subst (λ (s : Statement). StepOver g.S.Store c.args.self.now s c.show.result c.show.new.self) said c.show.ensures.over
 
 pub returns-in-Sequenced-clause-queries : goal.returns-in-Sequenced-clause-queries
-returns-in-Sequenced-clause-queries g c usable history kept asks =
+returns-in-Sequenced-clause-queries g c = λ usable history kept asks.
     let said : statement.sequenced (plain_query c.in-Sequenced.query) ≡ plain c.args.statement.now = ap plain_form (sym c.in-Sequenced.is) ∙ c.form.ensures in
     subst (λ (s : Statement). IfErr c.answer.result (MayRefuseQuery g.S.Store c.args.self.now c.answer.new.self s)) said (c.answer.ensures.queries usable history kept)
 
 pub returns-in-Stored-clause-queries : goal.returns-in-Stored-clause-queries
-returns-in-Stored-clause-queries g c usable history kept asks =
+returns-in-Stored-clause-queries g c = λ usable history kept asks.
     let said : statement.stored (plain_stored c.in-Stored.query) ≡ plain c.args.statement.now = ap plain_form (sym c.in-Stored.is) ∙ c.form.ensures in
     subst (λ (s : Statement). IfErr c.show.result (MayRefuseQuery g.S.Store c.args.self.now c.show.new.self s)) said (c.show.ensures.queries usable history kept)
 
 pub returns-in-At-clause-queries : goal.returns-in-At-clause-queries
-returns-in-At-clause-queries g c usable history kept asks = absurd (subst IsQuery (sym c.form.ensures ∙ ap plain_form c.in-At.is) asks)
+returns-in-At-clause-queries g c = λ usable history kept asks. absurd (subst IsQuery (sym c.form.ensures ∙ ap plain_form c.in-At.is) asks)
 
 pub returns-in-Create-clause-queries : goal.returns-in-Create-clause-queries
-returns-in-Create-clause-queries g c usable history kept asks = absurd (subst IsQuery (sym c.form.ensures ∙ ap plain_form c.in-Create.is) asks)
+returns-in-Create-clause-queries g c = λ usable history kept asks. absurd (subst IsQuery (sym c.form.ensures ∙ ap plain_form c.in-Create.is) asks)
 
 pub returns-in-Insert-clause-queries : goal.returns-in-Insert-clause-queries
-returns-in-Insert-clause-queries g c usable history kept asks = absurd (subst IsQuery (sym c.form.ensures ∙ ap plain_form c.in-Insert.is) asks)
+returns-in-Insert-clause-queries g c = λ usable history kept asks. absurd (subst IsQuery (sym c.form.ensures ∙ ap plain_form c.in-Insert.is) asks)
 
 pub returns-in-Update-clause-queries : goal.returns-in-Update-clause-queries
-returns-in-Update-clause-queries g c usable history kept asks = absurd (subst IsQuery (sym c.form.ensures ∙ ap plain_form c.in-Update.is) asks)
+returns-in-Update-clause-queries g c = λ usable history kept asks. absurd (subst IsQuery (sym c.form.ensures ∙ ap plain_form c.in-Update.is) asks)
 
 pub returns-in-Delete-clause-queries : goal.returns-in-Delete-clause-queries
-returns-in-Delete-clause-queries g c usable history kept asks = absurd (subst IsQuery (sym c.form.ensures ∙ ap plain_form c.in-Delete.is) asks)
+returns-in-Delete-clause-queries g c = λ usable history kept asks. absurd (subst IsQuery (sym c.form.ensures ∙ ap plain_form c.in-Delete.is) asks)
 
 -- ---- 62 is due to a fault
 
@@ -223,6 +223,59 @@ pub returns-in-Stored-clause-why : goal.returns-in-Stored-clause-why
 returns-in-Stored-clause-why g c = λ usable history kept room.
     let asked : Statement = statement.stored (plain_stored c.in-Stored.query) in
     IfErr-weaker c.show.result _ _ (λ refusal may told. asked_by_fault g.S.Store c.args.self.now c.show.new.self asked refusal tt may told) (c.show.ensures.queries usable history kept)
+
+-- ---- the database stays healthy
+
+pub returns-in-At-clause-healthy : goal.returns-in-At-clause-healthy
+returns-in-At-clause-healthy g c =
+    let said : statement.at c.in-At.moment ≡ plain c.args.statement.now = ap plain_form (sym c.in-At.is) ∙ c.form.ensures in
+    subst (λ (s : Statement). StatementLeavesHealthy g.S.Store c.args.self.now s c.advance.result c.advance.new.self) said c.advance.ensures.healthy
+
+pub returns-in-Create-clause-healthy : goal.returns-in-Create-clause-healthy
+returns-in-Create-clause-healthy g c =
+    let said : statement.create c.table.result.now ≡ plain c.args.statement.now = ap statement.create c.table.ensures.value ∙ ap plain_form (sym c.in-Create.is) ∙ c.form.ensures in
+    subst (λ (s : Statement). StatementLeavesHealthy g.S.Store c.args.self.now s c.create.result c.create.new.self) said c.create.ensures.healthy
+
+pub returns-in-Insert-clause-healthy : goal.returns-in-Insert-clause-healthy
+returns-in-Insert-clause-healthy g c =
+    let r : Result Change Refusal = c.resolve_insert-resolved.result in
+    let same : c.catalog.result.now.tables ≡ c.args.self.now.catalog.tables = ap (λ (k : Catalog). k.tables) c.catalog.ensures in
+    let said : statement.insert c.in-Insert.insert ≡ plain c.args.statement.now = ap plain_form (sym c.in-Insert.is) ∙ c.form.ensures in
+    let known : IsResolved c.args.self.now.catalog.tables (plain c.args.statement.now) word.Insert r =
+    subst₂ (λ (tables : List TableDef) (s : Statement). IsResolved tables s word.Insert r) same said (resolved_insert c.catalog.result.now.tables c.in-Insert.insert r c.resolve_insert-resolved.ensures.sound c.resolve_insert-resolved.ensures.resolved c.resolve_insert-resolved.ensures.empty c.resolve_insert-resolved.ensures.refused) in
+    c.change.ensures.healthy (plain c.args.statement.now) known
+
+pub returns-in-Update-clause-healthy : goal.returns-in-Update-clause-healthy
+returns-in-Update-clause-healthy g c =
+    let r : Result Change Refusal = c.resolve_update-resolved.result in
+    let same : c.catalog-in-Update.result.now.tables ≡ c.args.self.now.catalog.tables = ap (λ (k : Catalog). k.tables) c.catalog-in-Update.ensures in
+    let said : statement.update (plain_update c.in-Update.update) ≡ plain c.args.statement.now = ap plain_form (sym c.in-Update.is) ∙ c.form.ensures in
+    let known : IsResolved c.args.self.now.catalog.tables (plain c.args.statement.now) word.Update r =
+    subst₂ (λ (tables : List TableDef) (s : Statement). IsResolved tables s word.Update r) same said (resolved_update c.catalog-in-Update.result.now.tables (plain_update c.in-Update.update) r c.resolve_update-resolved.ensures.sound c.resolve_update-resolved.ensures.resolved c.resolve_update-resolved.ensures.refused) in
+    subst (λ (e : EngineState g.row.S.Denot). StatementLeavesHealthy g.S.Store e (plain c.args.statement.now) c.change-in-Update.result c.change-in-Update.new.self) c.prepare.ensures
+    (c.change-in-Update.ensures.healthy (plain c.args.statement.now) (subst (λ (e : EngineState g.row.S.Denot). IsResolved e.catalog.tables (plain c.args.statement.now) word.Update r) (sym c.prepare.ensures) known))
+
+pub returns-in-Delete-clause-healthy : goal.returns-in-Delete-clause-healthy
+returns-in-Delete-clause-healthy g c =
+    let r : Result Change Refusal = c.resolve_delete-resolved.result in
+    let same : c.catalog-in-Delete.result.now.tables ≡ c.args.self.now.catalog.tables = ap (λ (k : Catalog). k.tables) c.catalog-in-Delete.ensures in
+    let said : statement.delete (plain_delete c.in-Delete.delete) ≡ plain c.args.statement.now = ap plain_form (sym c.in-Delete.is) ∙ c.form.ensures in
+    let known : IsResolved c.args.self.now.catalog.tables (plain c.args.statement.now) word.Delete r =
+    subst₂ (λ (tables : List TableDef) (s : Statement). IsResolved tables s word.Delete r) same said (resolved_delete c.catalog-in-Delete.result.now.tables (plain_delete c.in-Delete.delete) r c.resolve_delete-resolved.ensures.sound c.resolve_delete-resolved.ensures.resolved c.resolve_delete-resolved.ensures.refused) in
+    subst (λ (e : EngineState g.row.S.Denot). StatementLeavesHealthy g.S.Store e (plain c.args.statement.now) c.change-in-Delete.result c.change-in-Delete.new.self) c.prepare-in-Delete.ensures
+    (c.change-in-Delete.ensures.healthy (plain c.args.statement.now) (subst (λ (e : EngineState g.row.S.Denot). IsResolved e.catalog.tables (plain c.args.statement.now) word.Delete r) (sym c.prepare-in-Delete.ensures) known))
+
+pub returns-in-Sequenced-clause-healthy : goal.returns-in-Sequenced-clause-healthy
+returns-in-Sequenced-clause-healthy g c =
+    let said : statement.sequenced (plain_query c.in-Sequenced.query) ≡ plain c.args.statement.now = ap plain_form (sym c.in-Sequenced.is) ∙ c.form.ensures in
+    subst (λ (s : Statement). StatementLeavesHealthy g.S.Store c.args.self.now s c.answer.result c.answer.new.self) said c.answer.ensures.healthy
+
+pub returns-in-Stored-clause-healthy : goal.returns-in-Stored-clause-healthy
+returns-in-Stored-clause-healthy g c =
+    let said : statement.stored (plain_stored c.in-Stored.query) ≡ plain c.args.statement.now = ap plain_form (sym c.in-Stored.is) ∙ c.form.ensures in
+    subst (λ (s : Statement). StatementLeavesHealthy g.S.Store c.args.self.now s c.show.result c.show.new.self) said c.show.ensures.healthy
+
+-- ---- an index that is made first changes nothing
 
 pub returns-in-Update-clause-kept : goal.returns-in-Update-clause-kept
 returns-in-Update-clause-kept g c = subst (λ (e : EngineState g.row.S.Denot). KeepsOnErr g.S.Store e c.change-in-Update.new.self c.change-in-Update.result) c.prepare.ensures c.change-in-Update.ensures.kept

@@ -94,6 +94,20 @@ returns-in-Ok-accept-clause-opened g c =
       empty = λ none.
           let made = c.in-Ok.ensures.empty none in
           (ap (λ (k : Catalog). k.tables) accepted.kept.0 ∙ made.0, accepted.kept.1 ∙ made.1);
+      healthy_new = λ usable empty count few.
+          let before = accepted.usable usable in
+          accepted.healthy usable empty_contents (c.in-Ok.ensures.fresh before empty).0 count (c.in-Ok.ensures.healthy before empty count few);
+      healthy = λ usable history stands some left sound.
+          let before = accepted.usable usable in
+          let stored : (d : Contents) × OpenedRepresents g.S.Store opened d = elim stands [
+            | inl fresh ↦ (empty_contents, (c.in-Ok.ensures.fresh before fresh.0).0)
+            | inr it ↦ (in_microseconds it.0 it.1, c.in-Ok.ensures.same before it.0 it.1 it.2)
+          ] in
+          let kept : IsHealthy left (state g.S.Store opened.store.connection).now = elim (c.in-Ok.ensures.unchanged before) [
+            | inl none ↦ absurd (some (ap (λ (k : Catalog). k.tables) accepted.kept.0 ∙ none.0))
+            | inr as_before ↦ subst (IsHealthy left) (sym as_before.0) sound
+          ] in
+          accepted.healthy usable stored.0 stored.1 left kept;
       others = spares_then g.S.Store c.args.connection opened.store.connection c.in-Ok-accept.store.connection c.in-Ok.ensures.others accepted.usable accepted.others;
       usable = λ usable. c.in-Ok.ensures.usable (accepted.usable usable);
     }
@@ -155,51 +169,52 @@ returns-in-Err-accept-clause-named g c = inr c.in-Err-accept.ensures.named
 pub returns-in-Err-accept-clause-bad : goal.returns-in-Err-accept-clause-bad
 returns-in-Err-accept-clause-bad g c = λ usable bad. absurd (elim c.in-Err-accept.ensures.named [ inl memory ↦ cc | inr failed ↦ cc ])
 
--- ---- a good store is refused for a reason
-
-pub returns-in-Err-clause-why : goal.returns-in-Err-clause-why
-returns-in-Err-clause-why g c = λ usable good movable rowids. c.in-Err.ensures.why usable (other_points good) rowids
-
--- the contents that are read of the store are good, and lawful
-pub returns-in-Err-load_lawful-clause-why : goal.returns-in-Err-load_lawful-clause-why
-returns-in-Err-load_lawful-clause-why g c = λ handed good movable rowids.
-    let before = subst (IsUsable g.S.Store) c.refuse.ensures.same handed in
-    let old : Database = (state g.S.Store c.args.connection).now in
-    let five = other_points good in
-    let d = its_contents five in
-    let has : HasIn five.form old five.contents = has_contents old five rowids.0 rowids.1 in
-    let stored = c.in-Ok.ensures.same before five.form five.contents has in
-    let its = read_of g.S.Store c.in-Ok.found.0 c.catalog.result.now c.in-Ok.found.1.items d c.catalog.ensures stored (c.in-Ok.ensures.versions before five.form five.contents has) (good_tables five) in
-    inl (c.in-Err-load_lawful.ensures.why d its (good_and_lawful good) (sym (c.clock-clock.ensures ∙ stored.clock)))
-
--- a store of form 2 is accepted, and one of form 1 is moved
-pub returns-in-Err-accept-clause-why : goal.returns-in-Err-accept-clause-why
-returns-in-Err-accept-clause-why g c = λ usable good movable rowids.
-    let before = c.in-Err-accept.ensures.was_usable usable in
-    let old : Database = (state g.S.Store c.args.connection).now in
-    let now : Database = (state g.S.Store c.in-Ok.found.0.store.connection).now in
-    let five = other_points good in
-    let has : HasIn five.form old five.contents = has_contents old five rowids.0 rowids.1 in
-    let stored = c.in-Ok.ensures.same before five.form five.contents has in
-    let written = λ (two : c.in-Ok.found.0.form ≡ Microseconds). never (c.in-Err-accept.ensures.unwritten two).0 in
-    let same : now ≡ old = elim (c.in-Ok.ensures.unchanged before) [ inl empty ↦ absurd (written empty.1) | inr kept ↦ kept.0 ] in
-    let forms = same_contents old c.in-Ok.found.0.form five.form stored.counted five.contents (subst (λ (e : Database). HasIn c.in-Ok.found.0.form e stored.counted) same stored.now) has in
-    let seconds : five.form ≡ Seconds = seconds_else five.form (λ two. written (forms.1 ∙ two)) in
-    let can = movable seconds in
-    let failed = c.in-Err-accept.ensures.why usable _ stored (record { healthy = subst (IsHealthy 0) (sym same) can.healthy; short = short_in five.form five.contents.versions can.short }) in
-    elim failed [
-      | inl memory ↦ inl memory
-      | inr fault ↦ inr (fault_since (state g.S.Store c.args.connection) (state g.S.Store c.in-Ok.found.0.store.connection) (state g.S.Store c.in-Err-accept.failed.1) c.in-Ok.ensures.faults fault)
-    ]
-
--- a new store is made, or refused for a reason
+-- ---- a good store, or a new one, is refused for a reason
 
 missing_in : (schema : Schema) → schema ≡ no_schema → HasNoStoreTable schema
 missing_in schema empty = subst HasNoStoreTable (sym empty) (record { meta = refl; table = refl; version = refl })
 
-pub returns-in-Err-load_lawful-clause-why_new : goal.returns-in-Err-load_lawful-clause-why_new
-returns-in-Err-load_lawful-clause-why_new g c = λ handed empty.
-    absurd (c.in-Err-load_lawful.ensures.some (ap (λ (k : Catalog). k.tables) c.catalog.ensures ∙ (c.in-Ok.ensures.empty (missing_in _ empty)).0))
+pub returns-in-Err-clause-why : goal.returns-in-Err-clause-why
+returns-in-Err-clause-why g c = record {
+  why = λ usable good movable rowids. c.in-Err.ensures.why usable (other_points good) rowids;
+  why_new = c.in-Err.ensures.why_new;
+}
 
-pub returns-in-Err-accept-clause-why_new : goal.returns-in-Err-accept-clause-why_new
-returns-in-Err-accept-clause-why_new g c = λ usable empty. absurd (never (c.in-Err-accept.ensures.unwritten (c.in-Ok.ensures.empty (missing_in _ empty)).2).0)
+pub returns-in-Err-load_lawful-clause-why : goal.returns-in-Err-load_lawful-clause-why
+returns-in-Err-load_lawful-clause-why g c = record {
+  -- the contents that are read of the store are good, and lawful
+  why = λ handed good movable rowids.
+      let before = subst (IsUsable g.S.Store) c.refuse.ensures.same handed in
+      let old : Database = (state g.S.Store c.args.connection).now in
+      let five = other_points good in
+      let d = its_contents five in
+      let has : HasIn five.form old five.contents = has_contents old five rowids.0 rowids.1 in
+      let stored = c.in-Ok.ensures.same before five.form five.contents has in
+      let its = read_of g.S.Store c.in-Ok.found.0 c.catalog.result.now c.in-Ok.found.1.items d c.catalog.ensures stored (c.in-Ok.ensures.versions before five.form five.contents has) (good_tables five) in
+      inl (c.in-Err-load_lawful.ensures.why d its (good_and_lawful good) (sym (c.clock-clock.ensures ∙ stored.clock)));
+  why_new = λ handed empty.
+      absurd (c.in-Err-load_lawful.ensures.some (ap (λ (k : Catalog). k.tables) c.catalog.ensures ∙ (c.in-Ok.ensures.empty (missing_in _ empty)).0));
+}
+
+pub returns-in-Err-accept-clause-why : goal.returns-in-Err-accept-clause-why
+returns-in-Err-accept-clause-why g c = record {
+  -- a store of form 2 is accepted, and one of form 1 is moved
+  why = λ usable good movable rowids.
+      let before = c.in-Err-accept.ensures.was_usable usable in
+      let old : Database = (state g.S.Store c.args.connection).now in
+      let now : Database = (state g.S.Store c.in-Ok.found.0.store.connection).now in
+      let five = other_points good in
+      let has : HasIn five.form old five.contents = has_contents old five rowids.0 rowids.1 in
+      let stored = c.in-Ok.ensures.same before five.form five.contents has in
+      let written = λ (two : c.in-Ok.found.0.form ≡ Microseconds). never (c.in-Err-accept.ensures.unwritten two).0 in
+      let same : now ≡ old = elim (c.in-Ok.ensures.unchanged before) [ inl empty ↦ absurd (written empty.1) | inr kept ↦ kept.0 ] in
+      let forms = same_contents old c.in-Ok.found.0.form five.form stored.counted five.contents (subst (λ (e : Database). HasIn c.in-Ok.found.0.form e stored.counted) same stored.now) has in
+      let seconds : five.form ≡ Seconds = seconds_else five.form (λ two. written (forms.1 ∙ two)) in
+      let can = movable seconds in
+      let failed = c.in-Err-accept.ensures.why usable _ stored (record { healthy = subst (IsHealthy 0) (sym same) can.healthy; short = short_in five.form five.contents.versions can.short }) in
+      elim failed [
+        | inl memory ↦ inl memory
+        | inr fault ↦ inr (fault_since (state g.S.Store c.args.connection) (state g.S.Store c.in-Ok.found.0.store.connection) (state g.S.Store c.in-Err-accept.failed.1) c.in-Ok.ensures.faults fault)
+      ];
+  why_new = λ usable empty. absurd (never (c.in-Err-accept.ensures.unwritten (c.in-Ok.ensures.empty (missing_in _ empty)).2).0);
+}

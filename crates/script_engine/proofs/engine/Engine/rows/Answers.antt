@@ -8,12 +8,12 @@ use Rattle.script_engine.proofs.Answered.{rows_hold}
 use Rattle.script_engine.proofs.engine.Engine.rows.Goals as goal
 
 pub returns-clause-states : goal.returns-clause-states
-returns-clause-states g c usable history kept =
+returns-clause-states g c = λ usable history kept.
     let was : EngineRepresents g.S.Store history (engine_with c.self.inside.store c.self.inside.tables) = subst (λ s. EngineRepresents g.S.Store history s) (sym c.self.view_is) kept in
     IfOk-weaker c.rows.result _ _ (λ rows are moment day before. rows_hold history was.contents c.args.table rows.items was.said are moment day before) (c.rows.ensures.rows usable was.contents was.stored)
 
 pub returns-clause-same : goal.returns-clause-same
-returns-clause-same g c usable history kept =
+returns-clause-same g c = λ usable history kept.
     let was : EngineRepresents g.S.Store history (engine_with c.self.inside.store c.self.inside.tables) = subst (λ s. EngineRepresents g.S.Store history s) (sym c.self.view_is) kept in
     record { contents = was.contents; stored = c.rows.ensures.same usable was.contents was.stored; said = was.said; current = was.current; ended = was.ended }
 

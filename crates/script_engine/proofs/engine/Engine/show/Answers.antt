@@ -19,10 +19,12 @@ use Rattle.script_engine.proofs.Handed.{has_the_same}
 use Rattle.script_engine.proofs.Refused.{failed_query}
 use Rattle.script_engine.proofs.OverFacts.{asked_over, untouched_over}
 use Rattle.script_engine.proofs.SameInMemory.{failed_over}
+use Rattle.sqlite.specs.Held.{state}
+use Rattle.version_tables.specs.Healthy.{IsHealthy}
 use Rattle.script_engine.proofs.engine.Engine.show.Goals as goal
 
 pub returns-clause-step : goal.returns-clause-step
-returns-clause-step g c usable history kept =
+returns-clause-step g c = λ usable history kept.
     let old : EngineState g.row.S.Denot = c.args.self.now in
     let new : EngineState g.row.S.Denot = engine_with c.self.inside.store c.shown_by.new.tables in
     let same : new ≡ old = ap (engine_with c.self.inside.store) c.shown_by.ensures.same ∙ c.self.view_is in
@@ -44,7 +46,7 @@ returns-clause-step g c usable history kept =
     (subst (AreShownIn kept.contents query) (sym c.from_vec.ensures) (c.in_ok-rows.ensures.right kept.contents current ended))
 
 pub returns-in_err-rows-clause-step : goal.returns-in_err-rows-clause-step
-returns-in_err-rows-clause-step g c usable history kept =
+returns-in_err-rows-clause-step g c = λ usable history kept.
     let p = err_from_is_err_and c.from_residual-in_err-rows.result c.from_residual-in_err-rows.ensures.1 in
     rw (p.1, p.2) (let old : EngineState g.row.S.Denot = c.args.self.now in
     let new : EngineState g.row.S.Denot = engine_with c.self.inside.store c.shown_by.new.tables in
@@ -55,13 +57,13 @@ returns-in_err-rows-clause-step g c usable history kept =
     failed_show g.S.Store history old asked kept new Memory sound (has_the_same g.S.Store history old kept new same) (inl refl))
 
 pub returns-in_err-query-clause-queries : goal.returns-in_err-query-clause-queries
-returns-in_err-query-clause-queries g c usable history kept =
+returns-in_err-query-clause-queries g c = λ usable history kept.
     let p = err_from_is_err_and c.from_residual.result c.from_residual.ensures.1 in
     rw (p.1, p.2) (let same : c.catalog.result.now.tables ≡ c.args.self.now.catalog.tables = ap (λ (k : Catalog). k.tables) c.catalog.ensures ∙ ap (λ s. s.catalog.tables) c.self.view_is in
     inl (subst (λ (tables : List TableDef). MayAnswer (Holds (stored_query_conditions tables (plain_stored c.args.query.now))) c.in_err-query.field-0.0) same c.in_err-query.ensures.refused))
 
 pub returns-in_err-rows-clause-queries : goal.returns-in_err-rows-clause-queries
-returns-in_err-rows-clause-queries g c usable history kept =
+returns-in_err-rows-clause-queries g c = λ usable history kept.
     let p = err_from_is_err_and c.from_residual-in_err-rows.result c.from_residual-in_err-rows.ensures.1 in
     rw (p.1, p.2) (let old : EngineState g.row.S.Denot = c.args.self.now in
     let new : EngineState g.row.S.Denot = engine_with c.self.inside.store c.shown_by.new.tables in
@@ -95,3 +97,6 @@ returns-in_err-rows-clause-over g c =
     untouched_over g.S.Store old (statement.stored asked) new Memory same
     (failed_over old.catalog.tables old.clock (statement.stored asked) Memory
     (subst (λ (k : Catalog). NoneApplies (Holds (stored_query_conditions k.tables asked))) catalog c.in_ok-query.ensures.sound) (inl refl)))
+
+pub returns-clause-healthy : goal.returns-clause-healthy
+returns-clause-healthy g c = λ usable history kept left room. subst (λ (e : EngineState g.row.S.Denot). IsHealthy left (state g.S.Store e.connection).now) (sym c.self.view_is) room.healthy

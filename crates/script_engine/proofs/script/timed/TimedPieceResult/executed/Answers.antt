@@ -7,7 +7,7 @@ use Rattle.script_engine.specs.script.Timed.{AtStep, AtStepOver, IsClockMoment, 
 use Rattle.script_engine.proofs.script.timed.TimedPieceResult.executed.Goals as goal
 
 pub returns-in-Ok-clause-step : goal.returns-in-Ok-clause-step
-returns-in-Ok-clause-step g c usable history kept piece none spelled =
+returns-in-Ok-clause-step g c = λ usable history kept piece none spelled.
     let (ready, is, represents) = c.in-Ok.ensures.step (c.executed.ensures.usable usable) history kept in
     let (new, step, after) = c.executed.ensures.step usable ready represents piece none spelled in
     let time : IsClockMoment c.moment.result = (c.moment.ensures.in_range, c.moment.ensures.below) in
@@ -25,7 +25,7 @@ returns-in-Ok-clause-others g c =
     spares_then g.S.Store c.args.engine.now.connection c.ready.new.engine.connection c.executed.new.engine.connection c.in-Ok.ensures.others c.executed.ensures.usable c.executed.ensures.others
 
 pub returns-in-Err-clause-step : goal.returns-in-Err-clause-step
-returns-in-Err-clause-step g c usable history kept piece none spelled =
+returns-in-Err-clause-step g c = λ usable history kept piece none spelled.
     let (new, is, represents) = c.in-Err.ensures.step usable history kept in
     let time : IsClockMoment c.moment-in-Err.result = (c.moment-in-Err.ensures.in_range, c.moment-in-Err.ensures.below) in
     let found = subst (λ (t : ℤ). IsUnready AtStep clock_of history t (plain c.args.statement.now) c.in-Err.refusal new) (sym c.moment-in-Err.ensures.value) is in
