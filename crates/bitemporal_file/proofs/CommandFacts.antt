@@ -1,5 +1,5 @@
 -- The place at which the line of a command begins.
-use Rattle.std.proofs.Common.{◌≡◌, ◌≢◌, ◌+◌, ◌++◌, ◌∷◌, ◌∙◌, ◌==◌, ◌⊎◌, ℕ, Bool, List, [], Option, true, false, ap, arith, inl, inr, length, length-append, refl, subst, sym}
+use Rattle.std.proofs.Common.{◌≡◌, ◌≢◌, ◌+◌, ◌++◌, ◌∷◌, ◌∙◌, ◌==◌, ◌⊎◌, ℕ, All, Bool, List, [], Option, true, false, ap, arith, inl, inr, length, length-append, refl, subst, sym}
 use Rattle.std.specs.Prelude.{◌&&◌}
 use Rattle.std.specs.Io.KnownBytes.{Consumes}
 use Rattle.std.proofs.KnownBytes.{Consumes-trans}
@@ -8,7 +8,7 @@ use Rattle.sql_statements.specs.Lexis.{line_feed}
 use Rattle.bitemporal_file.specs.declared.parts.Place.{Place}
 use Rattle.bitemporal_file.specs.declared.parts.Place.TheVariants.{Outside, AfterDash, InComment, InText, Ended}
 use Rattle.bitemporal_file.specs.declared.parts.CommandLine.{CommandLine}
-use Rattle.bitemporal_file.specs.Parts.{CommandBegins, HasNoCommand, IsCommandLine, IsRestOfLine, begins_line, dot, place_after, place_after_all}
+use Rattle.bitemporal_file.specs.Parts.{CommandBegins, HasNoCommand, IsBegun, IsCommandLine, IsRestOfLine, begins_line, dot, place_after, place_after_all}
 use Rattle.bitemporal_file.proofs.BlankFacts.{blank-none, is_blank_so_far, none-blank}
 
 -- after one more byte a line begins if the byte is a line feed
@@ -74,6 +74,19 @@ no_command-more starts all byte none off front rest is begins = elim (last-dot a
 pub no_command-read : (starts : Bool) (all : List ℕ) (byte : ℕ) (is_blank is_start : Bool) → is_blank ≡ is_blank_so_far all → is_start ≡ begins_line starts all → (is_blank && (is_start && (byte == dot))) ≡ false → HasNoCommand starts all → HasNoCommand starts (all ++ byte ∷ [])
 no_command-read starts all byte is_blank is_start blank begins off none =
     no_command-more starts all byte none (sym (ap (λ b. b && (is_start && (byte == dot))) blank ∙ ap (λ s. is_blank_so_far all && (s && (byte == dot))) begins) ∙ off)
+
+-- a part of the line of a command was read
+pub command-begun : (starts : Bool) (known mid next left : Option (List ℕ)) (all : List ℕ) (byte : ℕ) (is_blank is_start : Bool) (line : List ℕ) → Consumes known mid all → is_blank ≡ is_blank_so_far all → is_start ≡ begins_line starts all → Consumes mid next (byte ∷ []) → (is_blank && (is_start && (byte == dot))) ≡ true → Consumes next left line → All (λ b. b ≢ line_feed) line →
+    (bytes : List ℕ) × Consumes known left bytes × IsBegun starts bytes
+command-begun starts known mid next left all byte is_blank is_start line taken blank begins took on rest one =
+    let (is, more) = and_parts is_blank (is_start && (byte == dot)) on in
+    let (start, dotted) = and_parts is_start (byte == dot) more in
+    let dot_is : byte ≡ dot = eqb-true byte 46 dotted in
+    let took_dot : Consumes mid next (dot ∷ []) = subst (λ (b : ℕ). Consumes mid next (b ∷ [])) dot_is took in (
+      all ++ dot ∷ line,
+      Consumes-trans known mid left all (dot ∷ line) taken (Consumes-trans mid next left (dot ∷ []) line took_dot rest),
+      inr (all, line, refl, command-begins starts all (sym blank ∙ is) (sym begins ∙ start), one),
+    )
 
 -- the line of a command was read
 pub command-read : (starts : Bool) (known mid next left : Option (List ℕ)) (all : List ℕ) (byte before : ℕ) (is_blank is_start : Bool) (read : CommandLine) → Consumes known mid all → before ≡ length all → is_blank ≡ is_blank_so_far all → is_start ≡ begins_line starts all → Consumes mid next (byte ∷ []) → (is_blank && (is_start && (byte == dot))) ≡ true → IsRestOfLine (before + 1) next left read →

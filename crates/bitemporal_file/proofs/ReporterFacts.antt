@@ -1,6 +1,6 @@
 -- A reporter that was handed all results of a script: its text, and its fault.
-use Rattle.std.proofs.Common.{◌≡◌, ◌+◌, ◌++◌, ◌∷◌, ◌∙◌, ℕ, Bool, List, [], Option, None, All, false, true, ap, add-zero, arith, inl, inr, length, refl, subst, sym, append_assoc}
-use Rattle.std.specs.Prelude.{max}
+use Rattle.std.proofs.Common.{◌≡◌, ◌+◌, ◌++◌, ◌∷◌, ◌∙◌, ℕ, Bool, List, [], Option, None, Some, All, false, true, ap, add-zero, arith, inl, inr, length, refl, subst, sym, append_assoc}
+use Rattle.std.specs.Prelude.{◌≢◌, IsSome, max}
 use Rattle.std.specs.Io.KnownBytes.{Appends}
 use Rattle.std.proofs.KnownBytes.{Appends-nil, Appends-trans}
 use Rattle.std.proofs.lemmas.List.{length-append}
@@ -97,6 +97,15 @@ module _ {W N K : Type 0} (contents : W → Option (List ℕ)) (errors : N → O
   all_recorded n old (result ∷ results) goes_on new quiet (inr (middle, told, rest)) =
       let silent : middle.fault ≡ None = (told.on refl).0 ∙ quiet in
       next_recorded old result middle results goes_on new quiet told (all_recorded (n + 1) middle results goes_on new silent rest)
+
+  no_fault : {X : Type 0} (fault : Option X) → fault ≡ None → IsSome fault → ⊥
+  no_fault None same some = cc
+  no_fault (Some x) same some = cc
+
+  -- a reporter without a fault that receives no result has none
+  pub some_recorded : (n : ℕ) (old : Reporter W N) (results : List K) (goes_on : Bool) (new : Reporter W N) → old.fault ≡ None → ReceivesAll (λ o m. ReceivesResult contents errors text status forgotten o) n old results goes_on new → IsSome new.fault → results ≢ []
+  some_recorded n old [] goes_on new quiet (same, on) some = absurd (no_fault new.fault ((λ k. (same k).fault) ∙ quiet) some)
+  some_recorded n old (result ∷ results) goes_on new quiet heard some = λ none. let no : ⊥ = cc in no
 
   -- a reporter receives one result alone
   pub one_recorded : (old : Reporter W N) (result : K) (goes_on : Bool) (new : Reporter W N) → old.fault ≡ None → ReceivesResult contents errors text status forgotten old result goes_on new → ReceivesResults contents errors text status forgotten old (result ∷ []) goes_on new

@@ -51,6 +51,11 @@ pub read_fault_is_plain : (has_failed : Bool) (fault : RunFault) (refusal : Refu
 read_fault_is_plain has_failed fault refusal (inl memory) is = cc
 read_fault_is_plain has_failed fault refusal (inr (read, failed)) is = cc
 
+-- nor is it a report that was not written
+pub read_fault_is_no_write : (has_failed : Bool) (fault : RunFault) → (fault ≡ Memory) ⊎ ((fault ≡ Read) × (has_failed ≡ true)) → fault ≡ Write → ⊥
+read_fault_is_no_write has_failed fault (inl memory) is = cc
+read_fault_is_no_write has_failed fault (inr (read, failed)) is = cc
+
 -- the bytes of a script, as they are handed on
 pub read_bytes : (known : Option (List ℕ)) (script items : List ℕ) → script ≡ items → IfSome known (λ all. items ≡ read_of most_bytes all) → IfSome known (λ all. script ≡ read_of most_bytes all)
 read_bytes None script items same bytes = tt
@@ -66,9 +71,9 @@ same_refusal refusal other is = cc
 
 module _ {W N K : Type 0} (contents : W → Option (List ℕ)) (errors : N → Option (List ℕ)) (text : ℕ → K → List ℕ) (status : K → ℕ) (forgotten : K → ℕ) where
   -- a run that a fault ended before any script
-  pub none_run : (readers : List (Option (List ℕ))) (failed : Bool) (old : Reporter W N) (next : ℕ) (fault : RunFault) → old.fault ≡ None → IsScriptFault failed fault → ((refusal : Refusal) → fault ≡ Script refusal → MayRefuseNext {K = K} readers [] refusal) →
+  pub none_run : (readers : List (Option (List ℕ))) (failed : Bool) (old : Reporter W N) (next : ℕ) (fault : RunFault) → old.fault ≡ None → IsScriptFault failed fault → (fault ≡ Write → ⊥) → ((refusal : Refusal) → fault ≡ Script refusal → MayRefuseNext {K = K} readers [] refusal) →
       Ends contents errors text status forgotten readers failed old [] (Err fault) (record old { next = next })
-  none_run readers failed old next fault quiet its may = record {
+  none_run readers failed old next fault quiet its no_write may = record {
     stops = refl;
     unused = λ is. (is, refl);
     worst = refl;
@@ -78,6 +83,7 @@ module _ {W N K : Type 0} (contents : W → Option (List ℕ)) (errors : N → O
     written = λ none. Appends-nil (contents old.out);
     fault = its;
     faulty = rw quiet tt;
+    unwritten = λ is. let same : fault ≡ Write = cc in absurd (no_write same);
     whole = λ on. let no : ⊥ = cc in absurd no;
     stopped = λ off. let no : ⊥ = cc in absurd no;
     stop = λ stops. tt;
@@ -99,6 +105,7 @@ module _ {W N K : Type 0} (contents : W → Option (List ℕ)) (errors : N → O
     written = λ none. Appends-nil (contents old.out);
     fault = tt;
     faulty = rw quiet tt;
+    unwritten = λ is. let no : ⊥ = cc in absurd no;
     whole = λ on. (refl, λ stops. All-nil (λ r. status r ≡ 0));
     stopped = λ off. let no : ⊥ = cc in absurd no;
     stop = λ stops. tt;
@@ -131,6 +138,7 @@ module _ {W N K : Type 0} (contents : W → Option (List ℕ)) (errors : N → O
     written = λ none. subst (Appends (contents old.out) (contents new.out)) (sym (append-nil (texts_from text 1 results))) (told.written none).0;
     fault = tt;
     faulty = rw quiet tt;
+    unwritten = λ is. let no : ⊥ = cc in absurd no;
     whole = λ is.
         let on : goes_on ≡ true = same_flow goes_on true is in (
           refl,
@@ -163,9 +171,9 @@ module _ {W N K : Type 0} (contents : W → Option (List ℕ)) (errors : N → O
   faulty_flow true old new results fault is told = rw (told.on refl).0 tt
 
   -- a script whose report met a fault
-  pub one_faulty : (known : Option (List ℕ)) (failed : Bool) (script : List ℕ) (old : Reporter W N) (results : List K) (goes_on : Bool) (new : Reporter W N) (fault : RunFault) → new.fault ≡ Some fault → ReceivesResults contents errors text status forgotten (record old { next = 1 }) results goes_on new →
+  pub one_faulty : (known : Option (List ℕ)) (failed : Bool) (script : List ℕ) (old : Reporter W N) (results : List K) (goes_on : Bool) (new : Reporter W N) (fault : RunFault) → new.fault ≡ Some fault → results ≢ [] → ReceivesResults contents errors text status forgotten (record old { next = 1 }) results goes_on new →
       Ends contents errors text status forgotten (known ∷ []) failed old (one script results goes_on) (Err fault) new
-  one_faulty known failed script old results goes_on new fault is told =
+  one_faulty known failed script old results goes_on new fault is some told =
       let may = faulty_flow goes_on (record old { next = 1 }) new results fault is told in
       record {
         stops = told.stops;
@@ -177,6 +185,7 @@ module _ {W N K : Type 0} (contents : W → Option (List ℕ)) (errors : N → O
         written = λ none. let no : ⊥ = cc in absurd no;
         fault = unwritten_script failed fault (its_own new.fault fault is may);
         faulty = its_fault new.fault fault is may;
+        unwritten = λ same. (is ∙ ap Some (same_fault fault Write same), λ none. some (sym (append-nil results) ∙ none));
         whole = λ on. let no : ⊥ = cc in absurd no;
         stopped = λ off. let no : ⊥ = cc in absurd no;
         stop = λ stops. subst (AllButLast (λ r. status r ≡ 0)) (sym (append-nil results)) (told.stop stops);
@@ -193,6 +202,10 @@ module _ {W N K : Type 0} (contents : W → Option (List ℕ)) (errors : N → O
   pub results-more : (runs more : List (ScriptRun K)) → results_of (runs ++ more) ≡ results_of runs ++ results_of more
   results-more [] more = refl
   results-more (run ∷ runs) more = ap (λ rest. run.results ++ rest) (results-more runs more) ∙ sym (append_assoc run.results (results_of runs) (results_of more))
+
+  none_after : (results more : List K) → results ++ more ≡ [] → more ≡ []
+  none_after [] more none = none
+  none_after (result ∷ results) more none = let no : ⊥ = cc in absurd no
 
   tallies-more : (tally : Tally) (runs more : List (ScriptRun K)) → tally_after forgotten tally (runs ++ more) ≡ tally_after forgotten (tally_after forgotten tally runs) more
   tallies-more tally [] more = refl
@@ -248,6 +261,9 @@ module _ {W N K : Type 0} (contents : W → Option (List ℕ)) (errors : N → O
             (Appends-trans (contents old.out) (contents middle.out) (contents new.out) (reports text runs) (reports text more) (first.written quiet) (last.written none));
         fault = last.fault;
         faulty = last.faulty;
+        unwritten = λ is.
+            let (its, some) = last.unwritten is in
+            (its, λ none. some (none_after (results_of runs) (results_of more) (sym (results-more runs more) ∙ none)));
         whole = λ is.
             let (its, zero) = last.whole is in (
               length-append runs more ∙ (λ k. count k + its k) ∙ sym (length-append readers (known ∷ [])),
@@ -274,6 +290,7 @@ module _ {W N K : Type 0} (contents : W → Option (List ℕ)) (errors : N → O
     written = ends.written;
     fault = ends.fault;
     faulty = ends.faulty;
+    unwritten = ends.unwritten;
     whole = λ is. absurd (before is);
     stopped = ends.stopped;
     stop = ends.stop;
@@ -293,6 +310,7 @@ module _ {W N K : Type 0} (contents : W → Option (List ℕ)) (errors : N → O
     written = ends.written;
     fault = its ended ends.fault;
     faulty = ends.faulty;
+    unwritten = ends.unwritten;
     whole = ends.whole;
     stopped = ends.stopped;
     stop = ends.stop;

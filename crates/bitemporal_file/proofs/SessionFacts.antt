@@ -9,7 +9,7 @@ use Rattle.std.specs.Io.KnownBytes.{Appends, Consumes, IsAtEnd, Keeps}
 use Rattle.std.proofs.KnownBytes.{Appends-trans, Consumes-kept, Consumes-nil, Consumes-trans}
 use Rattle.std.proofs.lemmas.List.{append-nil}
 use Rattle.std.proofs.lemmas.List.Concat.{flat_map-append}
-use Rattle.std.proofs.lemmas.List.Elements.{All-append, All-cons, All-nil}
+use Rattle.std.proofs.lemmas.List.Elements.{All-append, All-cons, All-head, All-nil, All-tail}
 use Rattle.period_core.specs.declared.refusal.Refusal.{Refusal}
 use Rattle.history_model.specs.Histories.{History}
 use Rattle.sqlite.specs.Store.{Ghosts}
@@ -18,16 +18,16 @@ use Rattle.script_engine.specs.engine.EngineState.{EngineState}
 use Rattle.script_engine.specs.engine.Stored.{EngineRepresents, RepresentsSome, WasUsable}
 use Rattle.sql_statements.specs.Lexemes.{Lexeme}
 use Rattle.command_line.specs.declared.fault.RunFault.{RunFault}
-use Rattle.command_line.specs.declared.fault.RunFault.TheVariants.{Memory, Unfinished}
+use Rattle.command_line.specs.declared.fault.RunFault.TheVariants.{Memory, Read, Unfinished, Write}
 use Rattle.bitemporal_file.specs.declared.parts.Place.{Place}
 use Rattle.bitemporal_file.specs.declared.reporter.Reporter.{Reporter}
 use Rattle.bitemporal_file.specs.declared.parts.Part.{Part}
 use Rattle.bitemporal_file.specs.declared.parts.Part.TheVariants.{Whole, TooLarge, Command}
 use Rattle.bitemporal_file.specs.Commands.{IsAnswer, IsAnswered, IsAnsweredOver}
-use Rattle.bitemporal_file.specs.Parts.{EndsAtSemicolon, HasNoCommand, HasNoToken, IsCommandLine, IsPart, IsPartOf, IsUnfinished, IsUnread, place_after, place_after_all}
+use Rattle.bitemporal_file.specs.Parts.{EndsAtSemicolon, HasNoCommand, HasNoToken, IsBegun, IsCommandLine, IsPart, IsPartOf, IsUnfinished, IsUnread, place_after, place_after_all}
 use Rattle.bitemporal_file.specs.Reporting.{IsReportFault, ReceivesResults}
 use Rattle.bitemporal_file.specs.ScriptRuns.{AreRun, IsWhole, ScriptRun}
-use Rattle.bitemporal_file.specs.Sessions.{AreCut, AreTurnsOf, EndsWith, IsSessionFault, IsTurn, LeadsThrough, LineAnswered, PartStep, Ran, ReceivesTurn, Turn, TurnStep, all_results, begins_after, bytes_in, bytes_of, ends_line, placed_at, results_in, runs_in, runs_of, text_in, turns_text}
+use Rattle.bitemporal_file.specs.Sessions.{AreCut, AreTurnsOf, EndsWith, IsSessionFault, IsSilent, IsTurn, LeadsThrough, LineAnswered, PartStep, Ran, ReceivesTurn, Turn, TurnStep, all_results, begins_after, bytes_in, bytes_of, ends_line, placed_at, results_in, runs_in, runs_of, text_in, turns_text}
 use Rattle.bitemporal_file.proofs.RunFacts.{all_ran, faulty_flow, its_fault, its_own, more_ran, one_ran}
 use Rattle.bitemporal_file.proofs.ReporterFacts.{recorded_more}
 
@@ -128,27 +128,34 @@ module _ {K : Type 0} where
         let here : start ≡ 0 + length (bytes_of turns) = omega (arith, begins) in
         leads-further 0 opening turns middle turn last did (subst (λ s. TurnStep IsStep refused Tell s middle turn last) here step)
 
+  -- the last of some turns
+  pub last_silent : (turns : List (Turn K)) (turn : Turn K) → All IsSilent (turns ++ turn ∷ []) → IsSilent turn
+  last_silent [] turn all = All-head IsSilent turn [] all
+  last_silent (first ∷ turns) turn all = last_silent turns turn (All-tail IsSilent first (turns ++ turn ∷ []) all)
+
   -- ---- the ends of turns
 
   abbrev pub one_run : List ℕ → List K → Bool → ScriptRun K
   one_run script results is_whole = record { script = script; results = results; is_whole = is_whole }
 
-  pub turns_failed : (known left : Option (List ℕ)) (failed : Bool) (turns : List (Turn K)) (fault : RunFault) → AreCut true known turns left →
-      (fault ≡ Unfinished → IfSome left (λ rest. IsUnfinished rest × HasNoCommand (begins_after true turns) rest)) → IsSessionFault failed fault → AreTurnsOf known failed turns (Err fault)
-  turns_failed known left failed turns fault cut unfinished may = record {
+  pub turns_failed : (known left unread : Option (List ℕ)) (failed : Bool) (turns : List (Turn K)) (fault : RunFault) → AreCut true known turns left →
+      (fault ≡ Unfinished → IfSome left (λ rest. IsUnfinished rest × HasNoCommand (begins_after true turns) rest)) → (fault ≡ Read → (bytes : List ℕ) × Consumes left unread bytes × IsBegun (begins_after true turns) bytes) → IsSessionFault failed fault → AreTurnsOf known unread failed turns (Err fault)
+  turns_failed known left unread failed turns fault cut unfinished begun may = record {
     left = left;
     cut = cut;
     all = λ is. let no : ⊥ = cc in absurd no;
     unfinished = λ is. let same : fault ≡ Unfinished = cc in unfinished same;
+    read = λ is. let same : fault ≡ Read = cc in begun same;
     fault = may;
   }
 
-  pub turns_ended : (known left : Option (List ℕ)) (failed : Bool) (turns : List (Turn K)) (goes_on : Bool) → AreCut true known turns left → (goes_on ≡ true → IfSome left HasNoToken) → AreTurnsOf known failed turns (Ok goes_on)
-  turns_ended known left failed turns goes_on cut end = record {
+  pub turns_ended : (known left unread : Option (List ℕ)) (failed : Bool) (turns : List (Turn K)) (goes_on : Bool) → AreCut true known turns left → (goes_on ≡ true → IfSome left HasNoToken) → AreTurnsOf known unread failed turns (Ok goes_on)
+  turns_ended known left unread failed turns goes_on cut end = record {
     left = left;
     cut = cut;
     all = λ is. let same : goes_on ≡ true = cc in end same;
     unfinished = λ is. let no : ⊥ = cc in absurd no;
+    read = λ is. let no : ⊥ = cc in absurd no;
     fault = tt;
   }
 
@@ -168,8 +175,8 @@ module _ {K : Type 0} where
 
   module _ {W N : Type 0} (contents : W → Option (List ℕ)) (errors : N → Option (List ℕ)) (text : ℕ → K → List ℕ) (status : K → ℕ) (forgotten : K → ℕ) where
     -- a reporter receives a part's results
-    pub ran_heard : (old : Reporter W N) (run : ScriptRun K) (goes_on : Bool) (new : Reporter W N) → ReceivesResults contents errors text status forgotten old run.results goes_on new → ReceivesTurn contents errors text status forgotten old (Ran run) goes_on new
-    ran_heard old run goes_on new told = record {
+    pub ran_heard : (old : Reporter W N) (run : ScriptRun K) (goes_on : Bool) (new : Reporter W N) → ReceivesResults contents errors text status forgotten old run.results goes_on new → (IsSome new.fault → run.results ≢ []) → ReceivesTurn contents errors text status forgotten old (Ran run) goes_on new
+    ran_heard old run goes_on new told some = record {
       results = record {
         stops = told.stops;
         unused = told.unused;
@@ -183,6 +190,7 @@ module _ {K : Type 0} where
         stop = told.stop;
       };
       written = λ none. (told.written none).0;
+      faulty = some;
     }
 
     -- a reporter receives the answer to a command's line
@@ -202,6 +210,7 @@ module _ {K : Type 0} where
         stop = λ stops. tt;
       };
       written = λ silent. wrote refl;
+      faulty = λ its no. no;
     }
     line_received old out fault bytes line told false quiet wrote none some = record {
       results = record {
@@ -217,6 +226,7 @@ module _ {K : Type 0} where
         stop = λ stops. tt;
       };
       written = λ silent. absurd (no_fault fault silent (some refl).0);
+      faulty = λ its no. no;
     }
       where
         no_fault : {X : Type 0} (fault : Option X) → fault ≡ None → IsSome fault → ⊥
@@ -245,8 +255,8 @@ module _ {K : Type 0} where
     no_fault (Some x) same some = cc
 
     ends_heard : (old : Reporter W N) (turns : List (Turn K)) (goes_on : Bool) (ended : Result Bool RunFault) (new : Reporter W N) → Heard errors text status forgotten old (all_results turns) goes_on new → Written old turns new →
-        IfSome new.fault (λ fault. IsReportFault fault × (ended ≡ Err fault)) → ((flow : Bool) → ended ≡ Ok flow → (flow ≡ goes_on) × (new.fault ≡ None)) → EndsWith contents errors text status forgotten old turns ended new
-    ends_heard old turns goes_on ended new told wrote faulty flows = record {
+        IfSome new.fault (λ fault. IsReportFault fault × (ended ≡ Err fault)) → (ended ≡ Err Write → (new.fault ≡ Some Write) × ¬ All IsSilent turns) → ((flow : Bool) → ended ≡ Ok flow → (flow ≡ goes_on) × (new.fault ≡ None)) → EndsWith contents errors text status forgotten old turns ended new
+    ends_heard old turns goes_on ended new told wrote faulty unwritten flows = record {
       stops = told.stops;
       unused = told.unused;
       worst = told.worst;
@@ -255,6 +265,7 @@ module _ {K : Type 0} where
       told = told.told;
       written = wrote;
       faulty = faulty;
+      unwritten = unwritten;
       whole = λ is stops.
           let on : goes_on ≡ true = sym (flows true is).0 in
           (told.on on).1 stops;
@@ -268,23 +279,23 @@ module _ {K : Type 0} where
     }
 
     -- a session ended by a fault that is none of the report
-    pub failed_heard : (old : Reporter W N) (turns : List (Turn K)) (goes_on : Bool) (fault : RunFault) (new : Reporter W N) → new.fault ≡ None → Heard errors text status forgotten old (all_results turns) goes_on new → Written old turns new → EndsWith contents errors text status forgotten old turns (Err fault) new
-    failed_heard old turns goes_on fault new quiet told wrote =
-        ends_heard old turns goes_on (Err fault) new told wrote (rw quiet tt) (λ flow is. let no : ⊥ = cc in absurd no)
+    pub failed_heard : (old : Reporter W N) (turns : List (Turn K)) (goes_on : Bool) (fault : RunFault) (new : Reporter W N) → new.fault ≡ None → (fault ≡ Write → ⊥) → Heard errors text status forgotten old (all_results turns) goes_on new → Written old turns new → EndsWith contents errors text status forgotten old turns (Err fault) new
+    failed_heard old turns goes_on fault new quiet no_write told wrote =
+        ends_heard old turns goes_on (Err fault) new told wrote (rw quiet tt) (λ is. let same : fault ≡ Write = cc in absurd (no_write same)) (λ flow is. let no : ⊥ = cc in absurd no)
 
     pub report_fault : (old : Reporter W N) (turns : List (Turn K)) (goes_on : Bool) (fault : RunFault) (new : Reporter W N) → new.fault ≡ Some fault → Heard errors text status forgotten old (all_results turns) goes_on new → IsReportFault fault
     report_fault old turns goes_on fault new is told =
         its_own (λ (out : W). None) errors text status forgotten new.fault fault is (faulty_flow (λ (out : W). None) errors text status forgotten goes_on old new (all_results turns) fault is told)
 
     -- a session ended by a fault of the report
-    pub faulty_heard : (old : Reporter W N) (turns : List (Turn K)) (goes_on : Bool) (fault : RunFault) (new : Reporter W N) → new.fault ≡ Some fault → Heard errors text status forgotten old (all_results turns) goes_on new → Written old turns new → EndsWith contents errors text status forgotten old turns (Err fault) new
-    faulty_heard old turns goes_on fault new is told wrote =
-        ends_heard old turns goes_on (Err fault) new told wrote (its_fault (λ (out : W). None) errors text status forgotten new.fault fault is (faulty_flow (λ (out : W). None) errors text status forgotten goes_on old new (all_results turns) fault is told)) (λ flow same. let no : ⊥ = cc in absurd no)
+    pub faulty_heard : (old : Reporter W N) (turns : List (Turn K)) (goes_on : Bool) (fault : RunFault) (new : Reporter W N) → new.fault ≡ Some fault → ¬ All IsSilent turns → Heard errors text status forgotten old (all_results turns) goes_on new → Written old turns new → EndsWith contents errors text status forgotten old turns (Err fault) new
+    faulty_heard old turns goes_on fault new is some told wrote =
+        ends_heard old turns goes_on (Err fault) new told wrote (its_fault (λ (out : W). None) errors text status forgotten new.fault fault is (faulty_flow (λ (out : W). None) errors text status forgotten goes_on old new (all_results turns) fault is told)) (λ write. let same : fault ≡ Write = cc in (is ∙ ap Some same, some)) (λ flow same. let no : ⊥ = cc in absurd no)
 
     -- a reporter without a fault has written all turns
     pub quiet_heard : (old : Reporter W N) (turns : List (Turn K)) (goes_on : Bool) (new : Reporter W N) → new.fault ≡ None → Heard errors text status forgotten old (all_results turns) goes_on new → Written old turns new → EndsWith contents errors text status forgotten old turns (Ok goes_on) new
     quiet_heard old turns goes_on new quiet told wrote =
-        ends_heard old turns goes_on (Ok goes_on) new told wrote (rw quiet tt) (λ flow is. let same : flow ≡ goes_on = cc in (same, quiet))
+        ends_heard old turns goes_on (Ok goes_on) new told wrote (rw quiet tt) (λ is. let no : ⊥ = cc in absurd no) (λ flow is. let same : flow ≡ goes_on = cc in (same, quiet))
 
 -- ---- faults
 
@@ -302,6 +313,16 @@ unwritten_report_fault failed fault (inr is) = rw is tt
 pub report_is_not_unfinished : (fault : RunFault) → IsReportFault fault → fault ≡ Unfinished → ⊥
 report_is_not_unfinished fault (inl is) unfinished = cc
 report_is_not_unfinished fault (inr is) unfinished = cc
+
+-- a part that was not read is no report that was not written
+pub read_is_no_write : (failed : Bool) (fault : RunFault) → (fault ≡ Memory) ⊎ (IsUnread failed fault ⊎ (fault ≡ Unfinished)) → fault ≡ Write → ⊥
+read_is_no_write failed fault (inl is) write = cc
+read_is_no_write failed fault (inr (inl (is, did))) write = cc
+read_is_no_write failed fault (inr (inr is)) write = cc
+
+pub report_is_no_read : (fault : RunFault) → IsReportFault fault → fault ≡ Read → ⊥
+report_is_no_read fault (inl is) read = cc
+report_is_no_read fault (inr is) read = cc
 
 -- a fault of memory is no unfinished statement
 pub memory_fault : (fault : RunFault) → fault ≡ Memory → fault ≡ Unfinished → ⊥
@@ -338,12 +359,13 @@ module _ {S K W N : Type 0} (g : Ghosts S) (IsStep : History → List Lexeme →
   pub refused_part : (old new : Reporter W N) (before after : EngineState S) (start : ℕ) (script : List ℕ) (refusal : Refusal) (result : Result Bool RunFault) → MayRefuseScript script refusal → after ≡ before →
       IfOk result (λ goes_on. ReceivesResults contents errors text status forgotten old (refused (placed_at start refusal) ∷ []) goes_on new) →
       IfOk result (λ goes_on. (results : List K) × ReceivesResults contents errors text status forgotten old results goes_on new
+      × (IsSome new.fault → results ≢ [])
       × PartStep IsStepOver refused start before (record { script = script; results = results; is_whole = goes_on }) after
       × (IsUsable g after.connection → (history : History) → EngineRepresents g history before
       → RepresentsSome g (PartStep IsStep refused start history (record { script = script; results = results; is_whole = goes_on })) after))
   refused_part old new before after start script refusal (Err fault) may same told = tt
   refused_part old new before after start script refusal (Ok goes_on) may same told =
-      (refused (placed_at start refusal) ∷ [], told, inr (refusal, may, refl, same), λ usable history stands. (history, inr (refusal, may, refl, refl), subst (EngineRepresents g history) (sym same) stands))
+      (refused (placed_at start refusal) ∷ [], told, (λ its none. let no : ⊥ = cc in no), inr (refusal, may, refl, same), λ usable history stands. (history, inr (refusal, may, refl, refl), subst (EngineRepresents g history) (sym same) stands))
 
 module _ {S K W N : Type 0} (g : Ghosts S) (made : List ℕ → List ℕ → Type 0) (IsStep : History → List Lexeme → K → History → Type 0) (IsStepOver : EngineState S → List Lexeme → K → EngineState S → Type 0) (refused : Refusal → K) (contents : W → Option (List ℕ)) (errors : N → Option (List ℕ)) (text : ℕ → K → List ℕ) (status : K → ℕ) (forgotten : K → ℕ) where
   -- a turn was made, and the reporter has received it
@@ -358,19 +380,20 @@ module _ {S K W N : Type 0} (g : Ghosts S) (made : List ℕ → List ℕ → Typ
   -- a part was run, or refused as a whole
   pub part_turn : (old new : Reporter W N) (before after : EngineState S) (start : ℕ) (starts : Bool) (bytes script : List ℕ) (left : Option (List ℕ)) (commands : Bool) (result : Result Bool RunFault) → bytes ≡ script → commands ≡ false → EndsAtSemicolon script → HasNoCommand starts script →
       IfOk result (λ goes_on. (results : List K) × ReceivesResults contents errors text status forgotten old results goes_on new
+      × (IsSome new.fault → results ≢ [])
       × PartStep IsStepOver refused start before (record { script = bytes; results = results; is_whole = goes_on }) after
       × (IsUsable g after.connection → (history : History) → EngineRepresents g history before
       → RepresentsSome g (PartStep IsStep refused start history (record { script = bytes; results = results; is_whole = goes_on })) after)) →
       IfOk result (Turned old new before after start starts script left commands)
   part_turn old new before after start starts bytes script left commands (Err fault) same none ends off ran = tt
-  part_turn old new before after start starts bytes script left commands (Ok goes_on) same none ends off (results, told, over, went) =
+  part_turn old new before after start starts bytes script left commands (Ok goes_on) same none ends off (results, told, some, over, went) =
       let run : ScriptRun K = one_run bytes results goes_on in (
         Ran run,
         same,
         (subst EndsAtSemicolon (sym same) ends, subst (HasNoCommand starts) (sym same) off),
         sym none,
         λ on. All-cons IsWhole run [] on (All-nil IsWhole),
-        ran_heard contents errors text status forgotten old run goes_on new told,
+        ran_heard contents errors text status forgotten old run goes_on new told some,
         over,
         went,
       )

@@ -121,6 +121,14 @@ pub record IsRestOfLine (before : ℕ) (known left : Option (List ℕ)) (read : 
     pub kept_of : IsKeptOf line read.bytes.items
     pub count : read.count ≡ before + length (line ++ end)
 
+-- a part that is begun: its bytes so far, which no semicolon ends and of which none begins a
+-- command; or a command's, up to within its line
+abbrev pub IsBegun : Bool → List ℕ → Type 0
+IsBegun starts bytes =
+    (IsOpen bytes × HasNoCommand starts bytes)
+    ⊎ ((front : List ℕ) × (line : List ℕ) × (bytes ≡ front ++ dot ∷ line)
+    × CommandBegins starts front × All (λ byte. byte ≢ line_feed) line)
+
 -- a part of a session: up to its semicolon, if none of its bytes begins a command; or the line
 -- of a command, after which this is left
 abbrev pub IsPart : Bool → List ℕ → Option (List ℕ) → Part → Type 0

@@ -87,7 +87,7 @@ read_only_refusal refused refusal = record { kept = refused refusal }
 -- files
 abbrev pub RunsReading : {S W N : Type 0} → Ghosts S → (List ℕ → List ℕ → Type 0)
     → (W → Option (List ℕ)) → (N → Option (List ℕ)) → Bool
-    → List (Option (List ℕ)) → Option (List ℕ) → Bool → Reporter W N → Held S
+    → List (Option (List ℕ)) → (known unread : Option (List ℕ)) → Bool → Reporter W N → Held S
     → Result Bool RunFault → Held S → Reporter W N → Type 0
 RunsReading g made contents errors false =
     RunsKind g made (ReadOnlyPieceStep PieceStep Err)
@@ -101,8 +101,8 @@ RunsReading g made contents errors true =
     (λ number only. entry_text number only.kept) (λ only. entry_status only.kept) (λ only. 0)
 
 -- the request of a command line is run so over a store, by which bytes the names of scripts have,
--- and by what is known of the input, which is read only if the store is used, and whether a read of
--- it failed
+-- and by what is known of the input before and after, which is read only if the store is used, and
+-- whether a read of it failed
 abbrev pub RunsAskedReading : {S I W N : Type 0} → Ghosts S → (List ℕ → List ℕ → Type 0)
     → (W → Option (List ℕ)) → (N → Option (List ℕ)) → Filing S → (List ℕ → Option (List ℕ))
     → (I → Option (List ℕ)) → (I → Bool) → Request → Reporter W N → I → Result ℕ RunFault
@@ -111,7 +111,8 @@ RunsAskedReading g made contents errors files content_of remaining failed asked 
     new input =
     Uses g files (λ reporter. (reporter ≡ old) × (input ≡ unread))
     (RunsReading g made contents errors asked.audits
-    (map content_of (map string_bytes asked.files.items)) (remaining unread) (failed input) old)
+    (map content_of (map string_bytes asked.files.items)) (remaining unread) (remaining input)
+    (failed input) old)
     result new
 
 -- a command line is obeyed over a store that is only read: the store is inspected as it asks, and

@@ -1,6 +1,6 @@
 -- Scripts that are run one after the other, and their reports.
 use Rattle.std.specs.Prelude.{◌≡◌, ◌≢◌, ◌≤◌, ◌++◌, ◌∷◌, ℕ, Bool, List, [], Option, None, Result}
-use Rattle.std.specs.Prelude.{Ok, Err}
+use Rattle.std.specs.Prelude.{Ok, Err, Some}
 use Rattle.std.specs.Prelude.{All, IfErr, IfSome, false, length, true, ⊤}
 use Rattle.std.specs.Io.KnownBytes.{Appends}
 use Rattle.sql_statements.specs.Lexemes.{Lexeme}
@@ -103,6 +103,8 @@ pub record Ends {W N K : Type 0} (contents : W → Option (List ℕ)) (errors : 
   pub written : new.fault ≡ None → Appends (contents old.out) (contents new.out) (reports text runs)
   pub fault : IfErr ended (IsScriptFault failed)
   pub faulty : IfSome new.fault (λ fault. IsReportFault fault × (ended ≡ Err fault))
+  -- the report is said to be unwritten only if its reporter says so, after a statement
+  pub unwritten : ended ≡ Err Write → (new.fault ≡ Some Write) × (results_of runs ≢ [])
   -- all scripts were run, with --stop without a refusal; or they ended at the first
   pub whole : ended ≡ Ok true
       → (length runs ≡ length readers)

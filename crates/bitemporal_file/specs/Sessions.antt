@@ -1,8 +1,8 @@
 -- Sessions: the parts of an input that are run one after the other, as they are read, and the
 -- commands between them.
 use Rattle.std.specs.Prelude.{◌≡◌, ◌≤◌, ◌⊎◌, ◌+◌, ◌++◌, ◌∷◌, ℕ, Bool, List, [], Option, None}
-use Rattle.std.specs.Prelude.{Result, All, Err, IfErr, IfSome, Ok, false, flat_map, length, true}
-use Rattle.std.specs.Prelude.{⊤}
+use Rattle.std.specs.Prelude.{Result, All, Err, IfErr, IfSome, IsSome, Ok, Some, false, flat_map}
+use Rattle.std.specs.Prelude.{length, true, ⊤}
 use Rattle.std.specs.Io.KnownBytes.{Appends, Consumes}
 use Rattle.sql_statements.specs.Lexemes.{Lexeme}
 use Rattle.period_core.specs.declared.refusal.Refusal.{Refusal}
@@ -14,7 +14,7 @@ use Rattle.script_engine.specs.script.Listening.{IsFrontRunBy}
 use Rattle.script_engine.specs.script.Script.{MayRefuseScript}
 use Rattle.bitemporal_file.specs.Notes.{TellsFirst, tally_from}
 use Rattle.bitemporal_file.specs.Parts.{EndsAtSemicolon, HasNoCommand, HasNoToken}
-use Rattle.bitemporal_file.specs.Parts.{IsCommandLine, IsUnfinished}
+use Rattle.bitemporal_file.specs.Parts.{IsBegun, IsCommandLine, IsUnfinished}
 use Rattle.bitemporal_file.specs.Reporting.{AllButLast, EndsAtRefusal, IsReportFault}
 use Rattle.bitemporal_file.specs.Reporting.{ReceivesResults}
 use Rattle.bitemporal_file.specs.Reporting.{greatest_from, texts_from}
@@ -59,6 +59,11 @@ abbrev pub results_in : {K : Type 0} → Turn K → List K
 results_in (Ran run) = run.results
 results_in (LineAnswered bytes line told) = []
 
+-- there is nothing to report of a turn: no statement's result, and no answer to a command
+abbrev pub IsSilent : {K : Type 0} → Turn K → Type 0
+IsSilent (Ran run) = run.results ≡ []
+IsSilent (LineAnswered bytes line told) = ⊥
+
 -- the report of a turn, from the statement of a number on
 abbrev pub text_in : {K : Type 0} → (ℕ → K → List ℕ) → ℕ → Turn K → List ℕ
 text_in text n (Ran run) = texts_from text n run.results
@@ -90,6 +95,8 @@ pub record ReceivesTurn {W N K : Type 0} (contents : W → Option (List ℕ))
       old (results_in turn) goes_on new
   pub written : new.fault ≡ None
       → Appends (contents old.out) (contents new.out) (text_in text old.next turn)
+  -- a fault is of the turn's report
+  pub faulty : IsSome new.fault → ¬ IsSilent turn
 
 -- ---- the turns of a session
 
@@ -141,9 +148,9 @@ IsSessionFault failed Write = ⊤
 IsSessionFault failed Unfinished = ⊤
 IsSessionFault failed _ = ⊥
 
--- the known bytes of an input, which begin a line and whose reader has failed or not, begin with
--- the bytes of the turns
-pub record AreTurnsOf {K : Type 0} (known : Option (List ℕ)) (failed : Bool)
+-- the known bytes of an input, which begin a line, of which these were not read as the session
+-- ended, and whose reader has failed or not, begin with the bytes of the turns
+pub record AreTurnsOf {K : Type 0} (known unread : Option (List ℕ)) (failed : Bool)
     (turns : List (Turn K)) (ended : Result Bool RunFault) : Type 0 where
   -- each is up to its semicolon, or the line of a command
   pub left : Option (List ℕ)
@@ -153,6 +160,9 @@ pub record AreTurnsOf {K : Type 0} (known : Option (List ℕ)) (failed : Bool)
   -- the session is unfinished only if more is left, without a semicolon or a command
   pub unfinished : ended ≡ Err Unfinished
       → IfSome left (λ rest. IsUnfinished rest × HasNoCommand (begins_after true turns) rest)
+  -- if a read failed, no more than the beginning of a part was read after them
+  pub read : ended ≡ Err Read → (bytes : List ℕ) × Consumes left unread bytes
+      × IsBegun (begins_after true turns) bytes
   pub fault : IfErr ended (IsSessionFault failed)
 
 -- the end of a session whose reporter received the turns' results, before a fault or not
@@ -172,6 +182,8 @@ pub record EndsWith {W N K : Type 0} (contents : W → Option (List ℕ))
   pub written : new.fault ≡ None
       → Appends (contents old.out) (contents new.out) (turns_text text old.next turns)
   pub faulty : IfSome new.fault (λ fault. IsReportFault fault × (ended ≡ Err fault))
+  -- the report is said to be unwritten only if its reporter says so, after a turn that has one
+  pub unwritten : ended ≡ Err Write → (new.fault ≡ Some Write) × ¬ All IsSilent turns
   -- the session is at its end, with --stop without a refusal; or at the first refusal
   pub whole : ended ≡ Ok true → old.stops ≡ true
       → All (λ result. status result ≡ 0) (all_results turns)

@@ -1,5 +1,5 @@
 -- The files of a store, as it is opened and as it is closed.
-use Rattle.std.specs.Prelude.{◌≡◌, ◌⊎◌, Result, Ok, Err}
+use Rattle.std.specs.Prelude.{◌≡◌, ◌⊎◌, ℕ, List, Result, Ok, Err}
 use Rattle.std.specs.Mem.{manually_drop_value}
 use Rattle.sqlite_disk.specs.declared.Disk.{Ghosts}
 use Rattle.sqlite_disk.specs.declared.Files.{Files}
@@ -100,11 +100,18 @@ abbrev pub IsItsFault : {T : Type 0} → (RunFault → Type 0) → Result T RunF
 IsItsFault IsOfClosing (Err cause) fault = cause ≡ fault
 IsItsFault IsOfClosing (Ok value) fault = IsOfClosing fault
 
--- the filing of files that held this, and that became so
-abbrev pub filing : {D : Type 0} {g : Ghosts D} → Image → StoreEnd D g → Filing (FileStore D g)
-filing image end = record {
-  Fails = FailsToOpen image end;
-  Opens = Finds image;
+-- if a store of the name that is asked for does not open, it was sought by that name, or memory is
+-- out
+abbrev pub IsSought : (asked name : List ℕ) → RunFault → Type 0
+IsSought asked name fault = (fault ≡ Memory) ⊎ (name ≡ asked)
+
+-- the filing of the files that are asked for by a name, that held this, and that were opened by a
+-- name and became so
+abbrev pub filing : {D : Type 0} {g : Ghosts D} → List ℕ → Image → List ℕ → StoreEnd D g
+    → Filing (FileStore D g)
+filing asked image name end = record {
+  Fails = λ fault. FailsToOpen image end fault × IsSought asked name fault;
+  Opens = λ connection. Finds image connection × (name ≡ asked);
   Leaves = IsLeftAs end;
   Keeps = IsInFiles end;
   Unclosed = IsUnclosedFor end;

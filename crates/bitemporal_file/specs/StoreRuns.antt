@@ -17,7 +17,7 @@ use Rattle.version_store.specs.StoreState.{IsOpenRefusal, IsStoreRefusal, IsUsab
 use Rattle.version_store.specs.StoreState.{SparesOthers}
 use Rattle.script_engine.specs.engine.EngineState.{EngineState}
 use Rattle.script_engine.specs.engine.Stored.{DatabaseRepresents, EngineRepresents, IsBadStore}
-use Rattle.script_engine.specs.engine.Opens.{Opens}
+use Rattle.script_engine.specs.engine.Opens.{IsUnopenedFor, Opens}
 use Rattle.script_engine.specs.engine.Stored.{RepresentsSome, WasUsable}
 use Rattle.script_engine.specs.script.AuditedRuns.{AuditedPieceStep}
 use Rattle.script_engine.specs.script.Noted.{NotedStep, NotedStepOver}
@@ -67,6 +67,8 @@ pub record RefusesStore {S : Type 0} (g : Ghosts S) (opened : Held S) (refusal :
     (left : Held S) : Type 0 where
   pub named : IsOpenRefusal refusal
   pub bad : IsUsable g left → refusal ≡ BadStore → IsBadStore (state g opened).now
+  -- a good store, or a new one, only for memory or a fault of the database
+  pub why : IsUnopenedFor g opened left refusal
   pub none : IsUsable g left → IsAsBefore (state g opened) (state g left)
 
 -- a run of results of this kind: the step of a history that each is, and that of an engine,
@@ -89,22 +91,22 @@ module _ {E K W N : Type 0} (IsStep : History → List Lexeme → K → History 
       × Leads (λ history last. LeadsTo IsStep history runs last)
       × Over (λ first last. LeadsTo IsStepOver first runs last)
 
-  -- the parts of an input, whose reader has failed or not, are run as they are read, and the
-  -- commands between them are done
-  abbrev pub RunsSession : Option (List ℕ) → Bool → Reporter W N → Result Bool RunFault
-      → Reporter W N → Type 0
-  RunsSession known failed old ended new =
-      (turns : List (Turn K)) × AreTurnsOf known failed turns ended
+  -- the parts of an input, of which this was not read in the end, and whose reader has failed or
+  -- not, are run as they are read, and the commands between them are done
+  abbrev pub RunsSession : (known unread : Option (List ℕ)) → Bool → Reporter W N
+      → Result Bool RunFault → Reporter W N → Type 0
+  RunsSession known unread failed old ended new =
+      (turns : List (Turn K)) × AreTurnsOf known unread failed turns ended
       × AreRun (runs_of turns) ended new.fault
       × EndsWith contents errors text status forgotten old turns ended new
       × Leads (λ history last. LeadsThrough IsStep refused IsAnswered 0 history turns last)
       × Over (λ first last. LeadsThrough IsStepOver refused IsAnsweredOver 0 first turns last)
 
   -- scripts, or if there is none the input
-  abbrev pub RunsGiven : List (Option (List ℕ)) → Option (List ℕ) → Bool → Reporter W N
-      → Result Bool RunFault → Reporter W N → Type 0
-  RunsGiven [] known failed old ended new = RunsSession known failed old ended new
-  RunsGiven (reader ∷ readers) known failed old ended new =
+  abbrev pub RunsGiven : List (Option (List ℕ)) → (known unread : Option (List ℕ)) → Bool
+      → Reporter W N → Result Bool RunFault → Reporter W N → Type 0
+  RunsGiven [] known unread failed old ended new = RunsSession known unread failed old ended new
+  RunsGiven (reader ∷ readers) known unread failed old ended new =
       RunsScripts (reader ∷ readers) failed old ended new
 
 -- whether a read failed: of the files of the scripts that are named, or else of the input
@@ -118,13 +120,13 @@ module _ {S K W N : Type 0} (g : Ghosts S) (made : List ℕ → List ℕ → Typ
     (IsStepOver : EngineState S → List Lexeme → K → EngineState S → Type 0)
     (refused : Refusal → K) (contents : W → Option (List ℕ)) (errors : N → Option (List ℕ))
     (text : ℕ → K → List ℕ) (status : K → ℕ) (forgotten : K → ℕ) where
-  abbrev pub RunsKind : List (Option (List ℕ)) → Option (List ℕ) → Bool → Reporter W N → Held S
-      → Result Bool RunFault → Held S → Reporter W N → Type 0
-  RunsKind readers known failed old opened ended closed new =
+  abbrev pub RunsKind : List (Option (List ℕ)) → (known unread : Option (List ℕ)) → Bool
+      → Reporter W N → Held S → Result Bool RunFault → Held S → Reporter W N → Type 0
+  RunsKind readers known unread failed old opened ended closed new =
       RunsGiven IsStep IsStepOver (IsAnswered made) (over.IsAnsweredOver g) refused contents errors
       text status forgotten
-      (LeadsDatabase g opened closed) (LeadsOver g opened closed) readers known failed old ended
-      new
+      (LeadsDatabase g opened closed) (LeadsOver g opened closed) readers known unread failed old
+      ended new
 
 -- a run at the system's time, or not
 module _ {S K W N : Type 0} (g : Ghosts S) (made : List ℕ → List ℕ → Type 0)
@@ -132,8 +134,8 @@ module _ {S K W N : Type 0} (g : Ghosts S) (made : List ℕ → List ℕ → Typ
     (IsStepOver : EngineState S → List Lexeme → K → EngineState S → Type 0)
     (refused : Refusal → K) (contents : W → Option (List ℕ)) (errors : N → Option (List ℕ))
     (text : ℕ → K → List ℕ) (status : K → ℕ) (forgotten : K → ℕ) where
-  abbrev pub RunsWithClock : Bool → List (Option (List ℕ)) → Option (List ℕ) → Bool → Reporter W N
-      → Held S → Result Bool RunFault → Held S → Reporter W N → Type 0
+  abbrev pub RunsWithClock : Bool → List (Option (List ℕ)) → (known unread : Option (List ℕ))
+      → Bool → Reporter W N → Held S → Result Bool RunFault → Held S → Reporter W N → Type 0
   RunsWithClock false =
       RunsKind g made IsStep IsStepOver refused contents errors text status forgotten
   RunsWithClock true =
@@ -148,8 +150,8 @@ module _ {S K W N : Type 0} (g : Ghosts S) (made : List ℕ → List ℕ → Typ
     (result_of : K → Result Outcome Refusal) (refused : Refusal → K)
     (contents : W → Option (List ℕ)) (errors : N → Option (List ℕ))
     (text : ℕ → K → List ℕ) (status : K → ℕ) where
-  abbrev pub RunsNoting : Bool → List (Option (List ℕ)) → Option (List ℕ) → Bool → Reporter W N
-      → Held S → Result Bool RunFault → Held S → Reporter W N → Type 0
+  abbrev pub RunsNoting : Bool → List (Option (List ℕ)) → (known unread : Option (List ℕ))
+      → Bool → Reporter W N → Held S → Result Bool RunFault → Held S → Reporter W N → Type 0
   RunsNoting =
       RunsWithClock g made (NotedStep IsStep result_of) (NotedStepOver IsStepOver result_of)
       (noted_refusal refused) contents errors (λ number noted. text number noted.kept)
@@ -158,7 +160,7 @@ module _ {S K W N : Type 0} (g : Ghosts S) (made : List ℕ → List ℕ → Typ
 -- a run with an audit of each answer, or without; where the system makes files
 abbrev pub RunsAs : {S W N : Type 0} → Ghosts S → (List ℕ → List ℕ → Type 0)
     → (W → Option (List ℕ)) → (N → Option (List ℕ)) → (audits timed : Bool)
-    → List (Option (List ℕ)) → Option (List ℕ) → Bool → Reporter W N → Held S
+    → List (Option (List ℕ)) → (known unread : Option (List ℕ)) → Bool → Reporter W N → Held S
     → Result Bool RunFault → Held S → Reporter W N → Type 0
 RunsAs g made contents errors false =
     RunsNoting g made PieceStep (PieceStepOver g) (λ result. result) (λ refusal. Err refusal)
@@ -190,8 +192,8 @@ Uses {S} {T} g files IsUntouched Runs (Err fault) new =
     × Runs opened ended left new × IsItsFault (files.Unclosed left) ended fault)))
 
 -- the request of a command line is run over a store: by how its files are opened and left, by which
--- bytes the names of scripts have, and by what is known of the input, which is read only if the
--- store is used, and whether a read of it failed
+-- bytes the names of scripts have, and by what is known of the input before and after, which is
+-- read only if the store is used, and whether a read of it failed
 abbrev pub RunsAsked : {S I W N : Type 0} → Ghosts S → (List ℕ → List ℕ → Type 0)
     → (W → Option (List ℕ)) → (N → Option (List ℕ)) → Filing S → (List ℕ → Option (List ℕ))
     → (I → Option (List ℕ)) → (I → Bool) → Request → Reporter W N → I → Result ℕ RunFault
@@ -200,7 +202,8 @@ RunsAsked g made contents errors files content_of remaining failed asked old unr
     input =
     Uses g files (λ reporter. (reporter ≡ old) × (input ≡ unread))
     (RunsAs g made contents errors asked.audits asked.timed
-    (map content_of (map string_bytes asked.files.items)) (remaining unread) (failed input) old)
+    (map content_of (map string_bytes asked.files.items)) (remaining unread) (remaining input)
+    (failed input) old)
     result new
 
 -- the causes for which nothing is written of an open store

@@ -1,6 +1,7 @@
 //! A copy of a store in a file of its own, as one state between two statements.
 
 ghost use Rattle.std.specs.Prelude.{◌≡◌, ◌≤◌, IfErr, IfOk, Result, false, ℕ};
+ghost use Rattle.std.specs.String.{string_bytes};
 ghost use Rattle.sqlite_disk.specs.Memory.{memory_bytes};
 ghost use Rattle.sqlite_wal.specs.Files.{image_at};
 ghost use Rattle.version_store.specs.StoreState.{IsUsable, SparesOthers};
@@ -117,7 +118,8 @@ fn back_up_named<S: Start + Copy, C: System, W, E>(
     requires unused { IsUnused report.now }
     requires unopened { stores.old.end ≡ Unopened }
     ensures backs_up { BacksUp ⟦<Filed<S> as Store>⟧ C.made asked.now.file.now
-        (filing (image_at S.Start) stores.new.end) result report.now }
+        (filing asked.now.store.now (image_at S.Start) (string_bytes stores.new.name)
+        stores.new.end) result report.now }
     ensures low { IfOk result (λ status. status ≤ 3) }
 {
     let connection = stores.open_store(asked.store, false, 0)?;
@@ -153,7 +155,8 @@ pub fn run_backup<S: Start + Copy, C: System, W, E: Write>(
     ensures backs_up { (ended : Result ℕ AnyFault) × ExitsAs ended result err.new.has_failed
         (E.contents err.old.inner) (E.contents err.new.inner)
         × BacksUp ⟦<Filed<S> as Store>⟧ C.made asked.now.file.now
-        (filing (image_at S.Start) stores.new.end) ended report.now }
+        (filing asked.now.store.now (image_at S.Start) (string_bytes stores.new.name)
+        stores.new.end) ended report.now }
 {
     match back_up_named::<S, C, W, E>(system, alloc, stores, asked, report) {
         Ok(status) => status,

@@ -42,7 +42,8 @@ fn run_input<S: Alter, K: PieceResult<S> + Reported + Drop, C: System, R: Read, 
         W.contents E.contents K.text K.status_of K.forgotten_of
         (LeadsEngine S.Store engine.old engine.new)
         (λ Led. Led engine.old engine.new)
-        (R.remaining input.old.inner) input.new.has_failed reporter.old result reporter.new }
+        (R.remaining input.old.inner) (R.remaining input.new.inner) input.new.has_failed
+        reporter.old result reporter.new }
     ensures usable { WasUsable S.Store engine.old.connection engine.new.connection }
     ensures others { SparesOthers S.Store engine.old.connection engine.new.connection }
 {
@@ -74,7 +75,7 @@ fn run_files<
         (LeadsEngine S.Store engine.old engine.new)
         (λ Led. Led engine.old engine.new)
         (map (Q.content scripts.old.scripts.now) (map string_bytes files.now))
-        (R.remaining input.old.inner)
+        (R.remaining input.old.inner) (R.remaining input.new.inner)
         (failed_in files.now input.new.has_failed scripts.new.has_failed)
         reporter.old result reporter.new }
     ensures low { reporter.old.worst ≤ 3 → reporter.new.worst ≤ 3 }
@@ -117,7 +118,7 @@ pub(crate) fn run_store<
         (LeadsDatabase S.Store connection ended.1)
         (LeadsOver S.Store connection ended.1)
         (map (Q.content scripts.old.scripts.now) (map string_bytes files.now))
-        (R.remaining input.old.inner)
+        (R.remaining input.old.inner) (R.remaining input.new.inner)
         (failed_in files.now input.new.has_failed scripts.new.has_failed)
         reporter.old ended.0 reporter.new) }
     ensures usable { IfOk result (λ ended. WasUsable S.Store connection ended.1) }
@@ -158,7 +159,7 @@ fn run_opened<S: Alter, C: System, Q: Scripts, R: Read, W: Write, E: Write>(
     ensures ran { IfOk result (λ ended. RunsAs S.Store C.made W.contents E.contents
         asked.now.audits asked.now.timed
         (map (Q.content scripts.old.scripts.now) (map string_bytes asked.now.files.items))
-        (R.remaining input.old.inner)
+        (R.remaining input.old.inner) (R.remaining input.new.inner)
         (failed_in asked.now.files.items input.new.has_failed scripts.new.has_failed)
         reporter.old connection ended.0 ended.1 reporter.new) }
     ensures usable { IfOk result (λ ended. WasUsable S.Store connection ended.1) }
@@ -199,6 +200,7 @@ pub(crate) fn end_over<S: Start + Copy, T: Drop, W, E>(
     ensures left { IsLeftAs stores.new.end connection }
     ensures whole { OnOk result ((value : T) × (ended ≡ Ok value)) }
     ensures fault { IfErr result (IsItsFault (IsUnclosedFor stores.new.end connection) ended) }
+    ensures same { stores.new.name ≡ stores.old.name }
 {
     match ended {
         Ok(_) => stores.close_store(name, connection),
@@ -227,7 +229,8 @@ pub(crate) fn run_over<S: Start + Copy, C: System, Q: Scripts, R: Read, W: Write
     requires unused { IsUnused reporter.old }
     requires unopened { stores.old.end ≡ Unopened }
     ensures ran { RunsAsked ⟦<Filed<S> as Store>⟧ C.made W.contents E.contents
-        (filing (image_at S.Start) stores.new.end)
+        (filing (string_bytes asked.now.store) (image_at S.Start) (string_bytes stores.new.name)
+        stores.new.end)
         (Q.content scripts.old.scripts.now) (λ unread. R.remaining unread.inner)
         (λ unread. failed_in asked.now.files.items unread.has_failed scripts.new.has_failed)
         asked.now

@@ -2,15 +2,15 @@
 //! line of a command.
 
 ghost use Rattle.std.specs.Prelude.{◌≡◌, ◌≢◌, ◌==◌, ◌&&◌, ◌||◌, ◌<◌, ◌≤◌, ◌⊎◌, ◌++◌, ◌∷◌, ℕ, []};
-ghost use Rattle.std.specs.Prelude.{Bool, IfErr, IfOk, IfSome, List, Option, None, OnOk, length};
-ghost use Rattle.std.specs.Prelude.{true};
-ghost use Rattle.std.specs.Io.KnownBytes.{Consumes, IsAtEnd};
+ghost use Rattle.std.specs.Prelude.{All, Bool, IfErr, IfOk, IfSome, List, Option, None, OnOk};
+ghost use Rattle.std.specs.Prelude.{length, true};
+ghost use Rattle.std.specs.Io.KnownBytes.{Consumes, IsAtEnd, Keeps};
 ghost use Rattle.sql_statements.specs.Lexis as lexis;
 ghost use Rattle.command_line.specs.declared.fault.RunFault.TheVariants.{Memory, Unfinished};
 ghost use Rattle.script_engine.specs.script.Script.{most_bytes};
 ghost use Rattle.bitemporal_file.specs.declared.parts.Place.TheVariants.{AfterDash};
 ghost use Rattle.bitemporal_file.specs.Parts.{EndsAtSemicolon, HasNoCommand, HasNoToken};
-ghost use Rattle.bitemporal_file.specs.Parts.{IsKeptOf, IsPart, IsPartOf};
+ghost use Rattle.bitemporal_file.specs.Parts.{IsBegun, IsKeptOf, IsPart, IsPartOf};
 ghost use Rattle.bitemporal_file.specs.Parts.{IsRestOfLine, IsUnfinished, IsUnread, dot};
 ghost use Rattle.bitemporal_file.specs.Parts.{is_blank_at, is_command, outside_after, place_after};
 
@@ -125,6 +125,8 @@ fn next_byte<R: Read>(input: &mut Tracked<R>) -> Result<Option<u8>, RunFault>
     ensures none { IfOk result (λ next. next ≡ None
         → Consumes (R.remaining input.old.inner) (R.remaining input.new.inner) []
         × IsAtEnd (R.remaining input.new.inner)) }
+    ensures kept { IfErr result (λ _.
+        Keeps (R.remaining input.old.inner) (R.remaining input.new.inner)) }
     ensures fault { IfErr result (λ fault. IsUnread input.new.has_failed fault) }
 {
     let mut buffer = [0u8; 1];
@@ -223,6 +225,9 @@ fn read_line<R: Read>(
 ) -> Result<CommandLine, RunFault>
     ensures line { IfOk result
         (IsRestOfLine before (R.remaining input.old.inner) (R.remaining input.new.inner)) }
+    ensures unread { IfErr result (λ fault. fault ≡ RunFault.Read → (line : List ℕ)
+        × Consumes (R.remaining input.old.inner) (R.remaining input.new.inner) line
+        × All (λ byte. byte ≢ lexis.line_feed) line) }
     ensures fault { IfErr result (λ fault. (fault ≡ Memory)
         ⊎ IsUnread input.new.has_failed fault) }
 {
@@ -253,6 +258,9 @@ pub(crate) fn read_part<R: Read>(
     ensures none { result ≡ Ok None → IfSome (R.remaining input.old.inner) HasNoToken }
     ensures unfinished { result ≡ Err Unfinished → IfSome (R.remaining input.old.inner)
         (λ rest. IsUnfinished rest × HasNoCommand starts_line rest) }
+    ensures unread { result ≡ Err RunFault.Read → (bytes : List ℕ)
+        × Consumes (R.remaining input.old.inner) (R.remaining input.new.inner) bytes
+        × IsBegun starts_line bytes }
     ensures fault { IfErr result (λ fault. (fault ≡ Memory)
         ⊎ (IsUnread input.new.has_failed fault ⊎ (fault ≡ Unfinished))) }
 {

@@ -69,7 +69,8 @@ fn inspect_asked<S: Start + Copy, W: Write, E: Write>(
     requires unused { IsUnused reporter.old }
     requires unopened { stores.old.end ≡ Unopened }
     ensures inspects { Inspects ⟦<Filed<S> as Store>⟧ W.contents
-        (filing (image_at S.Start) stores.new.end) inspection reporter.old result reporter.new }
+        (filing (string_bytes asked.now.store) (image_at S.Start) (string_bytes stores.new.name)
+        stores.new.end) inspection reporter.old result reporter.new }
     ensures low { IfOk result (λ status. status ≤ 3) }
     ensures told { TellsFirst E.contents reporter.old.notes reporter.new.notes }
 {
@@ -101,7 +102,8 @@ fn run_asked<S: Start + Copy, Q: Scripts + Places + System, R: Read, W: Write, E
     requires unopened { stores.old.end ≡ Unopened }
     ensures done { asked.now.reads_only ≡ false
         → DoesAsked ⟦<Filed<S> as Store>⟧ Q.made W.contents E.contents
-        (filing (image_at S.Start) stores.new.end) (Q.content scripts.old.scripts.now)
+        (filing (string_bytes asked.now.store) (image_at S.Start) (string_bytes stores.new.name)
+        stores.new.end) (Q.content scripts.old.scripts.now)
         (λ unread. R.remaining unread.inner)
         (λ unread. failed_in asked.now.files.items unread.has_failed scripts.new.has_failed)
         asked.now
@@ -174,7 +176,8 @@ pub fn run_file_program<S: Start + Copy, Q: Scripts + Places + System, R: Read, 
         (E.contents report.old.notes.err.inner) (E.contents report.new.notes.err.inner)
         × (asked.reads_only ≡ false
         → DoesAsked ⟦<Filed<S> as Store>⟧ Q.made W.contents E.contents
-        (filing (image_at S.Start) stores.new.end) (Q.content scripts.old.scripts.now)
+        (filing (string_bytes asked.store) (image_at S.Start) (string_bytes stores.new.name)
+        stores.new.end) (Q.content scripts.old.scripts.now)
         (λ unread. R.remaining unread.inner)
         (λ unread. failed_in asked.files.items unread.has_failed scripts.new.has_failed)
         asked report.old input.old ended left input.new)

@@ -173,7 +173,7 @@ fn run_reading<S: Alter, C: System, Q: Scripts, R: Read, W: Write, E: Write>(
     ensures ran { IfOk result (λ ended. RunsReading S.Store C.made W.contents E.contents
         asked.now.audits
         (map (Q.content scripts.old.scripts.now) (map string_bytes asked.now.files.items))
-        (R.remaining input.old.inner)
+        (R.remaining input.old.inner) (R.remaining input.new.inner)
         (failed_in asked.now.files.items input.new.has_failed scripts.new.has_failed)
         reporter.old connection ended.0 ended.1 reporter.new) }
     ensures usable { IfOk result (λ ended. WasUsable S.Store connection ended.1) }

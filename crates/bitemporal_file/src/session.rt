@@ -1,8 +1,8 @@
 //! A session: the parts of one input, each run as soon as it is read, and the commands between
 //! them.
 
-ghost use Rattle.std.specs.Prelude.{◌≡◌, ◌∷◌, ℕ, [], All, Bool, IfErr, IfOk, IfSome, IsSome, List};
-ghost use Rattle.std.specs.Prelude.{None, Option, false, true};
+ghost use Rattle.std.specs.Prelude.{◌≡◌, ◌≢◌, ◌∷◌, ℕ, [], All, Bool, IfErr, IfOk, IfSome, IsSome};
+ghost use Rattle.std.specs.Prelude.{List, None, Option, false, true};
 ghost use Rattle.std.specs.Io.KnownBytes.{Appends};
 ghost use Rattle.version_store.specs.StoreState.{IsUsable, SparesOthers};
 ghost use Rattle.history_model.specs.Histories.{History};
@@ -75,6 +75,7 @@ fn run_whole<S: Alter, K: PieceResult<S> + Reported + Drop, C: Clock, W: Write, 
     ensures ran { IfOk result (λ goes_on. (results : List K)
         × ReceivesResults W.contents E.contents K.text K.status_of K.forgotten_of
         reporter.old results goes_on reporter.new
+        × (IsSome reporter.new.fault → results ≢ [])
         × PartStep K.is_step_over K.refused start engine.old
         (record { script = bytes.now; results = results; is_whole = goes_on }) engine.new
         × (IsUsable S.Store engine.new.connection
@@ -182,7 +183,8 @@ pub(crate) fn run_parts<
 ) -> Result<bool, RunFault>
     requires { reporter.old.fault ≡ None }
     ensures ran { (turns : List (Turn K))
-        × AreTurnsOf (R.remaining input.old.inner) input.new.has_failed turns result
+        × AreTurnsOf (R.remaining input.old.inner) (R.remaining input.new.inner)
+        input.new.has_failed turns result
         × AreRun (runs_of turns) result reporter.new.fault
         × EndsWith W.contents E.contents K.text K.status_of K.forgotten_of
         reporter.old turns result reporter.new

@@ -1,16 +1,20 @@
 //! The stores of a command line: the database files that their names open.
 
 ghost use Rattle.std.specs.Prelude.{◌≡◌, IfErr, IfOk, OnOk, false, true};
+ghost use Rattle.std.specs.String.{string_bytes};
 ghost use Rattle.sqlite_wal.specs.Files.{image_at};
+ghost use Rattle.command_line.specs.declared.fault.RunFault.TheVariants.{Memory};
 ghost use Rattle.bitemporal_file.specs.declared.stores.StoreEnd.TheVariants.{Unopened};
 ghost use Rattle.bitemporal_file.specs.StoreFiles.{FailsToOpen, Finds, IsInFiles, IsLeftAs};
-ghost use Rattle.bitemporal_file.specs.StoreFiles.{IsUnclosedFor, fault_for, fault_for_closing};
+ghost use Rattle.bitemporal_file.specs.StoreFiles.{IsSought, IsUnclosedFor, fault_for};
+ghost use Rattle.bitemporal_file.specs.StoreFiles.{fault_for_closing};
 
 use crate::reporter::Reporter;
 use command_line::RunFault;
 use period_core::Refusal;
 use sqlite::{Connection, Error, ErrorCode, FileFrom, FileStore, Files, Leftover, Start};
 use sqlite_disk::Disk;
+use std::alloc::Global;
 use std::io::ErrorKind;
 use std::mem::ManuallyDrop;
 use std::time::Duration;
@@ -63,6 +67,17 @@ pub(crate) fn closing_fault(error: Error) -> RunFault
     match error {
         Error::SqliteFailure(ErrorCode::OutOfMemory) => RunFault::Memory,
         _ => RunFault::Script(Refusal::Store),
+    }
+}
+
+// A copy of a store's name.
+fn copied_name(alloc: Global, name: &str) -> Result<String, RunFault>
+    ensures copy { IfOk result (λ copy. string_bytes copy ≡ name.now) }
+    ensures fault { IfErr result (λ fault. fault ≡ Memory) }
+{
+    match String::from_str(alloc, name) {
+        Ok(copy) => Ok(copy),
+        Err(_) => Err(RunFault::Memory),
     }
 }
 
@@ -163,6 +178,9 @@ pub struct FilesOf<'a, S: Start + Copy, D: Disk> {
     pub(crate) rt: &'a HostRuntime,
     start: S,
     before: Present,
+    /// The name of the store that was sought last: for the contracts alone, which say of it that it
+    /// is the one that is asked for.
+    pub(crate) name: String,
     /// The state in which the files that were opened were left.
     pub(crate) end: StoreEnd<D>,
 }
@@ -182,6 +200,7 @@ impl<'a, S: Start + Copy> FilesOf<'a, S, FileFrom<S>> {
                 store: true,
                 log: true,
             },
+            name: String::new(rt.alloc()),
             end: StoreEnd::Unopened,
         }
     }
@@ -193,8 +212,11 @@ impl<S: Start + Copy> FilesOf<'_, S, FileFrom<S>> {
         requires { self.old.end ≡ Unopened }
         ensures settled { IfOk result (λ connection. connection.in_transaction ≡ false) }
         ensures opened { IfOk result (Finds (image_at S.Start)) }
+        ensures named { IfOk result (λ _. string_bytes self.new.name ≡ name.now) }
         ensures refused { IfErr result (FailsToOpen (image_at S.Start) self.new.end) }
+        ensures sought { IfErr result (IsSought name.now (string_bytes self.new.name)) }
     {
+        self.name = copied_name(self.rt.alloc(), name)?;
         self.before = files_there(self.rt, name);
         if !may_make && !self.before.store {
             return Err(RunFault::NoStore);
@@ -237,7 +259,9 @@ impl<S: Start + Copy> FilesOf<'_, S, FileFrom<S>> {
         requires { self.old.end ≡ Unopened }
         ensures settled { IfOk result (λ connection. connection.in_transaction ≡ false) }
         ensures opened { IfOk result (Finds (image_at S.Start)) }
+        ensures named { IfOk result (λ _. string_bytes self.new.name ≡ name.now) }
         ensures refused { IfErr result (FailsToOpen (image_at S.Start) self.new.end) }
+        ensures sought { IfErr result (IsSought name.now (string_bytes self.new.name)) }
     {
         'tries: for _ in 0..tries_in(seconds) {
             match self.open_now(name, may_make) {
@@ -262,7 +286,8 @@ impl<S: Start + Copy> FilesOf<'_, S, FileFrom<S>> {
         connection: Connection<Filed<S>>,
     )
         requires { report.now.is_unused ≡ true }
-        ensures { IsLeftAs self.new.end connection }
+        ensures left { IsLeftAs self.new.end connection }
+        ensures same { self.new.name ≡ self.old.name }
     {
         self.end = StoreEnd::GivenUp(ManuallyDrop::new(connection));
         remove_new(self.rt, name, self.before);
@@ -278,6 +303,7 @@ impl<S: Start + Copy> FilesOf<'_, S, FileFrom<S>> {
         ensures kept { OnOk result (IsInFiles self.new.end connection) }
         ensures left { IsLeftAs self.new.end connection }
         ensures fault { IfErr result (IsUnclosedFor self.new.end connection) }
+        ensures same { self.new.name ≡ self.old.name }
     {
         match connection.close_files() {
             Ok(files) => {

@@ -3,6 +3,7 @@ use Rattle.std.proofs.lemmas.Result.{IfOk-weaker}
 use Rattle.version_store.specs.StoreState.{IsUsable, SparesOthers}
 use Rattle.version_store.proofs.Beside.{spares_then}
 use Rattle.bitemporal_file.proofs.RunFacts.{stands_for_history}
+use Rattle.std.proofs.lemmas.Result.{err_from_is_err_and}
 use Rattle.bitemporal_file.proofs.backup.back_up_store.Goals as goal
 
 pub returns-clause-others : goal.returns-clause-others
@@ -27,3 +28,10 @@ returns-clause-copied g c = record {
       made engine_usable history (c.in_ok-engine.ensures.opened.represents (c.back_up-copied.ensures.usable engine_usable) history stands))
       c.back_up-copied.ensures.copied;
 }
+
+-- a store that is not opened is refused as the engine refuses it
+pub returns-in_err-engine-clause-refused : goal.returns-in_err-engine-clause-refused
+returns-in_err-engine-clause-refused g c =
+    let p = err_from_is_err_and c.from_residual.result c.from_residual.ensures.1 in
+    let its = c.in_err-engine.ensures in
+    rw (p.1, p.2) (record { named = its.named; bad = its.bad; why = its.why; none = its.none })

@@ -1,4 +1,4 @@
-use Rattle.std.proofs.Common.{◌∙◌, inl, inr, refl}
+use Rattle.std.proofs.Common.{◌∙◌, ap, inl, inr, refl, string_bytes}
 use Rattle.std.proofs.lemmas.Result.{err_from_is_err_and}
 use Rattle.bitemporal_file.proofs.over.run_over.Goals as goal
 
@@ -13,15 +13,15 @@ give_up-requires g c =
 pub returns-in_err-connection-clause-ran : goal.returns-in_err-connection-clause-ran
 returns-in_err-connection-clause-ran g c =
     let p = err_from_is_err_and c.from_residual.result c.from_residual.ensures.1 in
-    rw (p.1, p.2) (inl (c.in_err-connection.ensures.refused, (refl, refl)))
+    rw (p.1, p.2, ← c.as_str-name.ensures.value) (inl ((c.in_err-connection.ensures.refused, c.in_err-connection.ensures.sought), (refl, refl)))
 
 pub returns-in_err-end_over-in-Ok-clause-ran : goal.returns-in_err-end_over-in-Ok-clause-ran
 returns-in_err-end_over-in-Ok-clause-ran g c =
     let p = err_from_is_err_and c.from_residual-in_err-end_over-in-Ok.result c.from_residual-in_err-end_over-in-Ok.ensures.1 in
-    rw (p.1, p.2) (inr (
+    rw (p.1, p.2, ← c.as_str-name.ensures.value) (inr (
       c.in_ok-connection.connection,
       c.in-Ok.connection,
-      c.in_ok-connection.ensures.opened,
+      (c.in_ok-connection.ensures.opened, ap string_bytes c.in_err-end_over-in-Ok.ensures.same ∙ c.in_ok-connection.ensures.named),
       c.in_err-end_over-in-Ok.ensures.left,
       inr (c.in-Ok.ended, c.in-Ok.ensures.usable, c.in-Ok.ensures.others, c.in-Ok.ensures.ran, c.in_err-end_over-in-Ok.ensures.fault),
     ))
@@ -30,9 +30,24 @@ pub returns-in_ok-end_over-in-Ok-clause-ran : goal.returns-in_ok-end_over-in-Ok-
 returns-in_ok-end_over-in-Ok-clause-ran g c =
     let (goes_on, whole) = c.in_ok-end_over-in-Ok.ensures.whole in
     let ran = rw whole at c.in-Ok.ensures.ran in
-    (c.in_ok-connection.connection, c.in-Ok.connection, c.in_ok-connection.ensures.opened, c.in_ok-end_over-in-Ok.ensures.kept, c.in-Ok.ensures.usable, c.in-Ok.ensures.others, (goes_on, ran), refl)
+    rw (← c.as_str-name.ensures.value) (
+      c.in_ok-connection.connection,
+      c.in-Ok.connection,
+      (c.in_ok-connection.ensures.opened, ap string_bytes c.in_ok-end_over-in-Ok.ensures.same ∙ c.in_ok-connection.ensures.named),
+      c.in_ok-end_over-in-Ok.ensures.kept,
+      c.in-Ok.ensures.usable,
+      c.in-Ok.ensures.others,
+      (goes_on, ran),
+      refl,
+    )
 
 pub returns-in-Err-clause-ran : goal.returns-in-Err-clause-ran
 returns-in-Err-clause-ran g c =
     let (refuses, reporter, input) = c.in-Err.ensures.refused in
-    inr (c.in_ok-connection.connection, c.in-Err.connection, c.in_ok-connection.ensures.opened, c.give_up.ensures, inl (c.in-Err.refusal, refuses, refl, (reporter, input)))
+    rw (← c.as_str-name.ensures.value) (inr (
+      c.in_ok-connection.connection,
+      c.in-Err.connection,
+      (c.in_ok-connection.ensures.opened, ap string_bytes c.give_up.ensures.same ∙ c.in_ok-connection.ensures.named),
+      c.give_up.ensures.left,
+      inl (c.in-Err.refusal, refuses, refl, (reporter, input)),
+    ))

@@ -19,7 +19,7 @@ returns-clause-ran g c =
     let (now, committed) = stands_for_history g.S.Store last c.run_files-ended.new.engine c.close_at_exit.result c.close_at_exit.ensures.same represents in
     (last, leads, now, committed))
     (λ (Led : EngineState g.row.S.Denot → EngineState g.row.S.Denot → Type 0) led. (c.in_ok-engine.engine, c.run_files-ended.new.engine, c.in_ok-engine.ensures.opened, led, c.close_at_exit.ensures.same))
-    _ _ _ c.args.reporter.now c.run_files-ended.result c.run_files-ended.new.reporter c.run_files-ended.ensures.ran
+    _ _ _ _ c.args.reporter.now c.run_files-ended.result c.run_files-ended.new.reporter c.run_files-ended.ensures.ran
 
 pub returns-clause-others : goal.returns-clause-others
 returns-clause-others g c =

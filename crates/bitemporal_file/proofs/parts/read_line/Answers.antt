@@ -1,8 +1,9 @@
 use Rattle.std.proofs.Common.{◌≡◌, ◌≢◌, ◌≤◌, ◌+◌, ◌++◌, ◌∷◌, ◌∙◌, ℕ, List, [], ap, arith, inl, inr, length, refl, rules, subst}
 use Rattle.std.specs.Io.KnownBytes.{Consumes}
-use Rattle.std.proofs.KnownBytes.{Consumes-nil, Consumes-trans}
+use Rattle.std.proofs.KnownBytes.{Consumes-kept, Consumes-nil, Consumes-trans}
 use Rattle.std.proofs.lemmas.List.{append-nil, length-append}
 use Rattle.std.proofs.lemmas.List.Elements.{All-append, All-cons, All-nil}
+use Rattle.std.proofs.lemmas.Result.{err_from_is_err_and}
 use Rattle.sql_statements.specs.Lexis.{line_feed}
 use Rattle.script_engine.specs.script.Script.{most_bytes}
 use Rattle.bitemporal_file.proofs.parts.read_line.Goals as goal
@@ -40,6 +41,14 @@ returns-then-byte-eq10-clause-line g c =
       kept_of = c.line_of-then-byte-eq10.ensures.kept all count kept;
       count = omega (arith, c.line_of-then-byte-eq10.ensures.count, count, length-append all (line_feed ∷ []));
     }
+
+-- the read of a byte failed
+
+pub returns-in_err-byte-clause-unread : goal.returns-in_err-byte-clause-unread
+returns-in_err-byte-clause-unread g c =
+    let (all, taken, count, kept, one) = c.reads.invariant in
+    let p = err_from_is_err_and c.from_residual.result c.from_residual.ensures.1 in
+    rw (p.1, p.2) (λ is. (all, Consumes-kept _ _ _ all taken c.in_err-byte.ensures.kept, one))
 
 pub reads-preserved : goal.reads-preserved
 reads-preserved g c =

@@ -1,12 +1,14 @@
-use Rattle.std.proofs.Common.{◌≡◌, ◌≢◌, ◌≤◌, ◌+◌, ◌++◌, ◌∷◌, ◌∙◌, ℕ, List, [], ap, arith, length, refl, rules, sym}
+use Rattle.std.proofs.Common.{◌≡◌, ◌≢◌, ◌≤◌, ◌+◌, ◌++◌, ◌∷◌, ◌∙◌, ℕ, List, [], ap, arith, inl, inr, length, refl, rules, sym}
 use Rattle.std.specs.Io.KnownBytes.{Consumes}
-use Rattle.std.proofs.KnownBytes.{Consumes-trans}
+use Rattle.std.proofs.KnownBytes.{Consumes-kept, Consumes-trans}
 use Rattle.std.proofs.lemmas.List.{length-append}
+use Rattle.std.proofs.lemmas.Result.{err_from_is_err_and}
+use Rattle.command_line.specs.declared.fault.RunFault.TheVariants.{Read}
 use Rattle.bitemporal_file.specs.declared.parts.Place.TheVariants.{Outside, Ended}
 use Rattle.bitemporal_file.specs.Parts.{HasNoCommand, HasNoToken, IsUnfinished, place_after, place_after_all}
 use Rattle.script_engine.specs.script.Script.{most_bytes}
 use Rattle.bitemporal_file.proofs.BlankFacts.{blank-next, blank-none, none-blank}
-use Rattle.bitemporal_file.proofs.CommandFacts.{command-read, line-more, no_command-read}
+use Rattle.bitemporal_file.proofs.CommandFacts.{command-begun, command-read, line-more, no_command-read}
 use Rattle.bitemporal_file.proofs.SessionFacts.{all-read, place-more}
 use Rattle.bitemporal_file.proofs.parts.read_part.Goals as goal
 
@@ -24,6 +26,29 @@ returns-in_default-clause-unfinished g c is =
     let some = c.end_at.ensures.unfinished is in
     all-read (λ (rest : List ℕ). IsUnfinished rest × HasNoCommand c.args.starts_line rest) _ _ _ all taken last end
     ((unended, λ no_token. let (are_blank, rest) = none-blank all no_token in some (blank ∙ are_blank, λ dash. rest (sym place ∙ dash))), none)
+
+pub returns-in_default-clause-unread : goal.returns-in_default-clause-unread
+returns-in_default-clause-unread g c is = elim c.end_at.ensures.end [
+  | inl none ↦ let no : ⊥ = cc in absurd no
+  | inr unfinished ↦ let no : ⊥ = cc in absurd no
+]
+
+-- a read failed
+
+pub returns-in_err-byte-clause-unread : goal.returns-in_err-byte-clause-unread
+returns-in_err-byte-clause-unread g c is =
+    let (all, taken, count, kept, place, unended, blank, begins, none) = c.reads.invariant in
+    (all, Consumes-kept _ _ _ all taken c.in_err-byte.ensures.kept, inl (unended, none))
+
+pub returns-in_err-line-clause-unread : goal.returns-in_err-line-clause-unread
+returns-in_err-line-clause-unread g c is =
+    let (all, taken, count, kept, place, unended, blank, begins, none) = c.reads.invariant in
+    let byte = c.in-Some.byte in
+    let took : Consumes (g.R.Read.remaining c.reads.input.inner) (g.R.Read.remaining c.next_byte.new.input.inner) (byte ∷ []) = search rules in
+    let (fault, its, same) = err_from_is_err_and c.from_residual-in_err-line.result c.from_residual-in_err-line.ensures.1 in
+    let failed : c.in_err-line.field-0.0 ≡ Read = cc in
+    let (line, rest, one) = c.in_err-line.ensures.unread failed in
+    command-begun c.args.starts_line _ _ _ _ all byte c.reads.is_blank c.reads.is_line_start line taken blank begins took (sym c.begins_command.ensures ∙ c.if-begins_command.true) rest one
 
 pub returns-then-begins_command-clause-part : goal.returns-then-begins_command-clause-part
 returns-then-begins_command-clause-part g c =

@@ -1,6 +1,6 @@
 use Rattle.std.proofs.Common.{◌≡◌, ◌||◌, ◌∷◌, ◌∙◌, ℕ, Bool, List, [], Option, false, inr, refl, subst, true}
 use Rattle.bitemporal_file.specs.ScriptRuns.{AreOfReaders, Ends}
-use Rattle.bitemporal_file.proofs.RunFacts.{ends_later, none_ran, none_run, read_fault_is_plain, unread_script}
+use Rattle.bitemporal_file.proofs.RunFacts.{ends_later, none_ran, none_run, read_fault_is_no_write, read_fault_is_plain, unread_script}
 use Rattle.bitemporal_file.proofs.runs.run_named.Goals as goal
 
 -- a failure that is noted
@@ -28,7 +28,7 @@ returns-in-Err-clause-ran g c = (
   [],
   tt,
   none_ran _ _,
-  none_run g.W.Write.contents g.E.Write.contents g.K.Reported.text g.K.Reported.status_of g.K.Reported.forgotten_of _ c.open.new.self.has_failed c.args.reporter.now c.args.reporter.now.next c.in-Err.fault c.requires (unread_script _ c.in-Err.fault (inr c.in-Err.ensures.refused)) (λ refusal is. absurd (read_fault_is_plain _ c.in-Err.fault refusal (inr c.in-Err.ensures.refused) is)),
+  none_run g.W.Write.contents g.E.Write.contents g.K.Reported.text g.K.Reported.status_of g.K.Reported.forgotten_of _ c.open.new.self.has_failed c.args.reporter.now c.args.reporter.now.next c.in-Err.fault c.requires (unread_script _ c.in-Err.fault (inr c.in-Err.ensures.refused)) (read_fault_is_no_write _ c.in-Err.fault (inr c.in-Err.ensures.refused)) (λ refusal is. absurd (read_fault_is_plain _ c.in-Err.fault refusal (inr c.in-Err.ensures.refused) is)),
   refl,
   λ usable history stands. (history, refl, stands),
 )
