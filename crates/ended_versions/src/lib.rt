@@ -1,4 +1,4 @@
-//! The versions of a table that have ended, in memory, found by moment and by key.
+//! The versions of a table that have ended, in memory, found by moment and by their values.
 //!
 //! A change ends versions at the clock, and the clock never goes back. So a version that ends comes
 //! after all that ended before it, and the list is in the order of its ends by itself. What a

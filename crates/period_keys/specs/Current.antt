@@ -5,10 +5,9 @@ use Rattle.catalog_core.specs.declared.table.Reference.{Reference}
 use Rattle.catalog_core.specs.declared.table.TableDef.{TableDef}
 use Rattle.history_model.specs.Histories.{State}
 use Rattle.history_model.specs.Versions.{row_of}
-use Rattle.period_core.specs.declared.version.VersionRow.{VersionRow}
 use Rattle.period_keys.specs.Lawful.{HoldsTable, Refers, key_positions, own_positions}
 use Rattle.period_keys.specs.Lawful.{parent_positions}
-use Rattle.period_keys.specs.Rows.{HasRows, RowsByKey}
+use Rattle.period_keys.specs.Rows.{RowsByKey}
 use Rattle.period_keys.specs.TableRows.{TableRows}
 
 -- ---- rows
@@ -25,15 +24,6 @@ HoldCurrent catalog state tables =
     (number : ℕ) (def : TableDef) → table_of catalog number ≡ Some def
     → (table : RowsByKey) × (table_of tables number ≡ Some table)
     × HoldsCurrent state number def table
-
--- the rows of the table of this number became these, in some order, and no other table changed
-pub record HaveTableRows (number : ℕ) (wanted : List VersionRow) (old new : List RowsByKey)
-    : Type 0 where
-  pub there :
-      (table : RowsByKey) → table_of old number ≡ Some table
-      → (changed : RowsByKey) × (table_of new number ≡ Some changed)
-      × HasRows wanted table changed
-  pub others : (other : ℕ) → (other ≡ number → ⊥) → table_of new other ≡ table_of old other
 
 -- ---- indexes
 

@@ -44,10 +44,6 @@ compare_by place c =
     (side_by place c.right))
     (side_by place c.left)
 
--- a side of a comparison in a row of a table
-abbrev pub resolved_operand : TableDef → Operand → Option Comparand
-resolved_operand t side = side_by (λ (r : ColumnReference). value_position t r.name) side
-
 -- a comparison in a row of a table
 abbrev pub resolved_comparison : TableDef → Compare → Option CompareValues
 resolved_comparison t c = compare_by (λ (r : ColumnReference). value_position t r.name) c

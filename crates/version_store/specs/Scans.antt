@@ -36,10 +36,6 @@ pub record AreFirst (c : Contents) (table : ℕ) (chooses : ℤ → ℤ → Bool
       (λ (row : TableVersion). All (λ (v : TableVersion). is_lt (version_cmp v row) ≡ false) rest)
       (map (version_in table) rows)
 
--- the first rows in order, of those that a window sees
-abbrev pub AreFirstSeen : Contents → ℕ → Window → List VersionRow → List TableVersion → Type 0
-AreFirstSeen c table window = AreFirst c table (window_sees window)
-
 -- AS OF FOREVER; FROM a TO b if a is not before b; BETWEEN a AND b if b is before a: such a
 -- window sees no version that a store has
 abbrev pub is_empty : Window → Bool
