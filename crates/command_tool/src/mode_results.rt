@@ -1,6 +1,6 @@
 //! The results of a script, their report and their status, for each mode.
 
-ghost use Rattle.std.specs.Prelude.{◌≡◌, ◌≢◌, ◌≤◌, ℕ, List, IfErr, IfOk, OnOk};
+ghost use Rattle.std.specs.Prelude.{◌≡◌, ℕ, List, IfErr, IfOk, OnOk};
 ghost use Rattle.std.specs.Io.KnownBytes.{Appends};
 ghost use Rattle.period_core.specs.declared.refusal.Refusal.{Refusal};
 ghost use Rattle.history_model.specs.Histories.{new_database, opened};

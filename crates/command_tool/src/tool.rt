@@ -1,8 +1,7 @@
 //! A run of the program: a script from a reader, the report of its run, with audits or without, or
 //! of its check to a writer, and the exit status.
 
-ghost use Rattle.std.specs.Prelude.{◌≡◌, ◌≢◌, ◌≤◌, IfErr, IfOk};
-ghost use Rattle.std.specs.Io.KnownBytes.{Keeps};
+ghost use Rattle.std.specs.Prelude.{IfErr, IfOk};
 ghost use Rattle.command_line.specs.Reading.{TakesAtMost};
 ghost use Rattle.command_tool.specs.Program.{EndsWell, GivesResults, IsOfReport, MayEndBy};
 ghost use Rattle.command_tool.specs.Program.{MayEndIn, MayFailSilently, Reports, ReportsText};

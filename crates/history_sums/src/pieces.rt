@@ -1,6 +1,6 @@
 //! The pieces of what a history spells, each added to the message that a sum has taken in so far.
 
-ghost use Rattle.std.specs.Prelude.{◌≡◌, ◌++◌, ℕ, IfOk, List, OnOk, flat_map, map};
+ghost use Rattle.std.specs.Prelude.{◌≡◌, ◌++◌, ℕ, IfOk, List, OnOk, map};
 ghost use Rattle.std.specs.String.{string_bytes};
 ghost use Rattle.md5.specs.Md5.{Holds};
 ghost use Rattle.history_model.specs.Versions.{plain_version};

@@ -1,6 +1,6 @@
 //! Values from bytes, in the one spelling that `encode_values` gives them.
 
-ghost use Rattle.std.specs.Prelude.{◌≡◌, ◌++◌, ◌∷◌, [], ℕ, List, IfOk, IfErr};
+ghost use Rattle.std.specs.Prelude.{◌≡◌, ◌++◌, ◌∷◌, ℕ, List, IfOk, IfErr};
 ghost use Rattle.std.specs.List.{All};
 ghost use Rattle.period_core.specs.Decoding.{HasFirst};
 ghost use Rattle.period_core.specs.Encoding.{IsColumnValue, IsEncoding, encoded, encoded_value};

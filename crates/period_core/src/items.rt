@@ -1,6 +1,6 @@
 //! Lists in the fields of other types.
 
-ghost use Rattle.std.specs.Prelude.{◌≡◌, ◌++◌, ◌∷◌, [], length, IfOk, OnErr, OnOk};
+ghost use Rattle.std.specs.Prelude.{◌≡◌, ◌++◌, ◌∷◌, [], length, OnErr, OnOk};
 
 use crate::memory::Memory;
 use std::alloc::Global;

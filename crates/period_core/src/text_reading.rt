@@ -1,6 +1,6 @@
 //! Days and moments read back from their texts.
 
-ghost use Rattle.std.specs.Prelude.{◌≡◌, ◌↔◌, ◌+◌, ◌*◌, ◌-◌, ◌<◌, length, slice_index, IsSome};
+ghost use Rattle.std.specs.Prelude.{◌≡◌, ◌+◌, ◌*◌, ◌-◌, ◌<◌, length, slice_index};
 ghost use Rattle.std.specs.Prelude.{IfSome, Some, None};
 ghost use Rattle.period_core.specs.TextReading as reading;
 ghost use Rattle.period_core.specs.TextReading.{date_parts_of, day_of_text, digit_of};

@@ -3,7 +3,7 @@
 ghost use Rattle.std.specs.Prelude.{◌≡◌, ◌↔◌, ◌<◌, ◌≤ℤ◌, ◌⊎◌, ◌++◌, ◌∷◌, [], Contains, IfOk};
 ghost use Rattle.std.specs.Prelude.{IfSome, IsTrue, OnErr, OnOk, false, length};
 ghost use Rattle.std.specs.Prelude.{slice_index_or};
-ghost use Rattle.std.specs.Bool.{OnFalse, OnTrue};
+ghost use Rattle.std.specs.Bool.{OnTrue};
 ghost use Rattle.std.specs.List.{All};
 ghost use Rattle.period_keys.specs.declared.placed_period.PlacedPeriod.{PlacedPeriod as Placed};
 ghost use Rattle.period_keys.specs.Between.{LiesBetween, Meets};

@@ -1,8 +1,7 @@
 //! The current version rows of one table, by key.
 
-ghost use Rattle.std.specs.Prelude.{◌≡◌, ◌≤◌, ◌++◌, ◌∷◌, [], ℕ, IfOk, IsPermutation, List, OnErr};
-ghost use Rattle.std.specs.Prelude.{MatchOption, OnOk, filter, length, map, option_copied, take};
-ghost use Rattle.std.specs.BTreeMap.{get_by};
+ghost use Rattle.std.specs.Prelude.{◌≡◌, ◌≤◌, ◌++◌, ◌∷◌, [], IfOk, IsPermutation, List, OnErr};
+ghost use Rattle.std.specs.Prelude.{MatchOption, OnOk, filter, length, map, take};
 ghost use Rattle.std.specs.List.Sorted.{IsStrictlySortedBy};
 ghost use Rattle.period_core.specs.Order.{values_cmp};
 ghost use Rattle.period_core.specs.declared.version.VersionRow.{VersionRow as Version};
@@ -12,7 +11,7 @@ ghost use Rattle.period_keys.specs.Keys.{IsLeastOf};
 ghost use Rattle.period_keys.specs.Rows.{AreGrouped, AreGroupsOf, HasRows, rows_of_groups};
 ghost use Rattle.period_keys.specs.Rows.{rows_of_key, rows_of_lists, rows_within};
 ghost use Rattle.period_keys.specs.Secondary.{is_of_some_key};
-ghost use Rattle.period_keys.specs.Versions.{begun, has_key_in, period_of, recorded};
+ghost use Rattle.period_keys.specs.Versions.{begun, period_of, recorded};
 ghost use Rattle.period_keys.specs.Versions.{version_key};
 
 use crate::groups::{Groups, add_to, group_at, group_within, groups_in, take_from};

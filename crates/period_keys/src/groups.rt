@@ -1,6 +1,6 @@
 //! Version rows in groups of one key.
 
-ghost use Rattle.std.specs.Prelude.{◌≡◌, ◌++◌, ◌∷◌, [], ℕ, IfOk, IsPermutation, List, OnErr, OnOk};
+ghost use Rattle.std.specs.Prelude.{◌≡◌, ◌∷◌, ℕ, IfOk, IsPermutation, List, OnErr, OnOk};
 ghost use Rattle.std.specs.Prelude.{filter, map, option_copied, true};
 ghost use Rattle.std.specs.BTreeMap.{get_by};
 ghost use Rattle.period_core.specs.Order.{values_cmp};

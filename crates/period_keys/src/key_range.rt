@@ -2,7 +2,7 @@
 //! these within limits.
 
 ghost use Rattle.std.specs.Prelude.{◌≡◌, ◌↔◌, ◌≤◌, ◌++◌, IfOk, IfSome, IsSome, IsTrue, List, OnOk};
-ghost use Rattle.std.specs.Prelude.{length, option_copied, slice_get, true, ℕ};
+ghost use Rattle.std.specs.Prelude.{length, option_copied, slice_get, true};
 ghost use Rattle.period_core.specs.declared.value.Value.{Value as ColumnValue};
 ghost use Rattle.period_keys.specs.Keys.{values_at};
 ghost use Rattle.period_keys.specs.Ranges.{first_values, is_above, is_at_lower, is_below};

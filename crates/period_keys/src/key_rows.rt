@@ -1,6 +1,6 @@
 //! The version rows of one key, found by their periods.
 
-ghost use Rattle.std.specs.Prelude.{◌≡◌, ◌↔◌, ◌<◌, ◌≤◌, ◌+◌, ◌++◌, ◌∷◌, [], ℕ, Contains, IfOk};
+ghost use Rattle.std.specs.Prelude.{◌≡◌, ◌↔◌, ◌<◌, ◌+◌, ◌++◌, ◌∷◌, [], ℕ, Contains, IfOk};
 ghost use Rattle.std.specs.Prelude.{IfSome, IsPermutation, IsTrue, List, MatchOption, OnErr, OnOk};
 ghost use Rattle.std.specs.Prelude.{length, map, slice_index_or};
 ghost use Rattle.std.proofs.Props.{props};

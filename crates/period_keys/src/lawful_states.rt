@@ -1,7 +1,7 @@
 //! Whether rows in memory hold a lawful state: on no day do two rows of a table share its key, and
 //! each row has its parents. The rows are judged where they are: no list of them is made.
 
-ghost use Rattle.std.specs.Prelude.{◌≡◌, ◌↔◌, ℕ, Contains, IfOk, IsTrue, Some, length, map};
+ghost use Rattle.std.specs.Prelude.{◌≡◌, ◌↔◌, Contains, IfOk, IsTrue, Some, length, map};
 ghost use Rattle.catalog_core.specs.table.TableWords.{table_of};
 ghost use Rattle.history_model.specs.Histories.{State};
 ghost use Rattle.period_keys.specs.Current.{AreReferencesIndexed, HaveIndexes, HoldCurrent};

@@ -1,6 +1,6 @@
 //! The periods of one key, in an index or of a table's rows.
 
-ghost use Rattle.std.specs.Prelude.{◌≡◌, ◌++◌, IfOk, OnOk, map};
+ghost use Rattle.std.specs.Prelude.{◌≡◌, ◌++◌, IfOk, map};
 ghost use Rattle.period_keys.specs.LookUps.{periods_of};
 ghost use Rattle.period_keys.specs.Versions.{period_of};
 

@@ -1,7 +1,7 @@
 //! The least day on which a change would leave a row without its parent, over all references that
 //! it touches: those from the changed table, and those to it.
 
-ghost use Rattle.std.specs.Prelude.{◌≡◌, ℕ, Contains, IfOk, List, Some, map};
+ghost use Rattle.std.specs.Prelude.{◌≡◌, Contains, IfOk, List, Some, map};
 ghost use Rattle.catalog_core.specs.declared.change.Change.{Change as ChangeModel};
 ghost use Rattle.catalog_core.specs.declared.table.TableDef.{TableDef as Definition};
 ghost use Rattle.catalog_core.specs.table.TableWords.{table_of};

@@ -2,7 +2,6 @@
 //! touches, or of two tables.
 
 ghost use Rattle.std.specs.Prelude.{◌++◌, ℕ, IfOk, IsPermutation, List, map};
-ghost use Rattle.std.specs.List.{Any};
 ghost use Rattle.period_core.specs.declared.period.Period.{Period as PeriodModel};
 ghost use Rattle.period_core.specs.declared.row.PeriodRow.{PeriodRow as Row};
 ghost use Rattle.history_model.specs.Versions.{row_of};

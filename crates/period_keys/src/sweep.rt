@@ -4,7 +4,6 @@
 
 ghost use Rattle.std.specs.Prelude.{◌≡◌, ◌↔◌, ◌<◌, ◌≤ℤ◌, ◌⊎◌, [], ℕ, AllPairs, IfOk, IsTrue};
 ghost use Rattle.std.specs.Prelude.{List, length, map};
-ghost use Rattle.period_core.specs.declared.row.PeriodRow.{PeriodRow as Row};
 ghost use Rattle.coalesce_core.specs.Coalesced.{NotAfter};
 ghost use Rattle.history_model.specs.Versions.{row_of};
 ghost use Rattle.period_keys.specs.Keys.{IsKeyClash, IsLeastOf, key_values};

@@ -6,7 +6,7 @@ use Rattle.std.specs.List.Sorted.{IsPermutation}
 use Rattle.std.specs.Option.{is_some}
 use Rattle.std.proofs.lemmas.Bool.{and_parts, cases_lt}
 use Rattle.std.proofs.lemmas.Bool.Decides.{nat_tests}
-use Rattle.std.proofs.lemmas.List.{length-map, length-set}
+use Rattle.std.proofs.lemmas.List.{length-map}
 use Rattle.std.proofs.lemmas.Slice.Zip.{AllZip-long}
 use Rattle.std.proofs.lemmas.List.Sorted.{Contains-permutation, IsPermutation-sym}
 use Rattle.sqlite_trees.proofs.ListLemmas.{IsPermutation-filter, all-append, all_both, filter-map}
@@ -38,8 +38,10 @@ use Rattle.version_store.specs.RowValues.{are_of_columns, is_of_column}
 use Rattle.version_store.specs.Scans.{seen_of}
 use Rattle.ended_versions.specs.Packed.{seen_through}
 use Rattle.script_engine.specs.engine.Answering.{AreRowsSeen, IsKnown, IsOfCatalog, SeesRows}
-use Rattle.script_engine.specs.engine.Needed.{AddNeeded, AreNeeded, AreRead, AreReadBelow, AreSeen, HaveRowFrom, HasReadFrom, InRead, InRows, IsNeeded, IsNeededAfter, IsNeededBy, IsOfRead, IsPrunedAfter, IsReadIn, IsSeenIfRead, KeepRead, SeesWidth, starts_from}
-use Rattle.script_engine.specs.engine.Stored.{AreOfHistory}
+use Rattle.script_engine.specs.engine.Needed.{AddNeeded, AreNeeded, AreRead, AreReadBelow, AreSeen, HaveRowFrom, HasReadFrom, InRead, InRows, IsNeeded, IsNeededAfter, IsNeededBy, IsOfRead, IsPrunedAfter, IsReadIn, IsSeenIfRead, ReadOn, SeesWidth, starts_from}
+use Rattle.script_engine.specs.engine.Stored.{AreOfHistory, TablesRepresent}
+use Rattle.script_engine.specs.engine.TablesState.{TablesState}
+use Rattle.script_engine.specs.declared.engine.read_lists.PlacedReferences.{PlacedReferences}
 use Rattle.script_engine.proofs.Answering.{at_length}
 use Rattle.script_engine.proofs.Fits.{all_are, each_among, rows_fit}
 use Rattle.script_engine.proofs.Seen.{sees_rows}
@@ -273,11 +275,17 @@ read_at_place history c references starts lists conjuncts others place at width 
 no_less : (place : ℕ) → place < 0 → ⊥
 no_less place below = omega (arith, below)
 
-pub kept_same : (lists : List (Option (List PeriodRow))) → KeepRead lists lists
-kept_same lists = (refl, λ place read. read)
+pub read_on_none : (tables : TablesState) (select : PlacedReferences) (lists : List (Option (List PeriodRow))) → ReadOn tables select lists lists
+read_on_none tables select lists = record { count = refl; kept = λ place read. read; needed = λ history represents known starts_are read. read }
 
-pub kept_more : (old middle new : List (Option (List PeriodRow))) → KeepRead old middle → KeepRead middle new → KeepRead old new
-kept_more old middle new (long, keep) (longer, keep_more) = (longer ∙ long, λ place read. keep_more place (keep place read))
+-- reading on and on, over tables that stay the same
+pub read_on_more : (tables same : TablesState) (select : PlacedReferences) (old middle new : List (Option (List PeriodRow))) → same ≡ tables → ReadOn tables select old middle → ReadOn same select middle new → ReadOn tables select old new
+read_on_more tables same select old middle new is first more = record {
+  count = more.count ∙ first.count;
+  kept = λ place read. more.kept place (first.kept place read);
+  needed = λ history represents known starts_are read.
+      more.needed history (subst (TablesRepresent history) (sym is) represents) known starts_are (first.needed history represents known starts_are read);
+}
 
 pub read_set : (lists : List (Option (List PeriodRow))) (place : ℕ) (rows : List PeriodRow) → place < length lists → IsReadIn (set lists place (Some rows)) place
 read_set [] place rows below = absurd (no_less place below)
@@ -291,16 +299,16 @@ stays_read (list ∷ lists) zero (suc other) rows its there = (its, there)
 stays_read (list ∷ lists) (suc place) zero rows its there = (its, there)
 stays_read (list ∷ lists) (suc place) (suc other) rows its there = stays_read lists place other rows its there
 
-pub kept_set : (lists : List (Option (List PeriodRow))) (place : ℕ) (rows : List PeriodRow) → KeepRead lists (set lists place (Some rows))
-kept_set lists place rows = (length-set lists place (Some rows), λ other (its, there). stays_read lists place other rows its there)
+pub kept_set : (lists : List (Option (List PeriodRow))) (place : ℕ) (rows : List PeriodRow) (other : ℕ) → IsReadIn lists other → IsReadIn (set lists place (Some rows)) other
+kept_set lists place rows other (its, there) = stays_read lists place other rows its there
 
 -- a list that is there is read
 pub read_there : (lists : List (Option (List PeriodRow))) (place : ℕ) (list : Option (List PeriodRow)) → slice_get lists place ≡ Some list → is_some list ≡ true → IsReadIn lists place
 read_there lists place None there some = absurd cc
 read_there lists place (Some rows) there some = (rows, there)
 
-pub read_below_more : (old new : List (Option (List PeriodRow))) (place : ℕ) → AreReadBelow old place → KeepRead old new → IsReadIn new place → AreReadBelow new (place + 1)
-read_below_more old new place below (long, keep) here other less = elim (cases_lt other place) [
+pub read_below_more : (old new : List (Option (List PeriodRow))) (place : ℕ) → AreReadBelow old place → ((other : ℕ) → IsReadIn old other → IsReadIn new other) → IsReadIn new place → AreReadBelow new (place + 1)
+read_below_more old new place below keep here other less = elim (cases_lt other place) [
   | inl before ↦ keep other (below other before)
   | inr behind ↦ let same : place ≡ other = omega (arith, behind, less) in subst (IsReadIn new) same here
 ]

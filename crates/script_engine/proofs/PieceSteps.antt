@@ -12,11 +12,9 @@ use Rattle.sql_statements.specs.Trees.{Statement}
 use Rattle.history_model.specs.Histories.{History}
 use Rattle.sqlite.specs.Store.{Ghosts}
 use Rattle.script_engine.specs.engine.EngineState.{EngineState}
-use Rattle.script_engine.specs.engine.Healthy.{StatementFailsOnFault, StatementLeavesHealthy}
-use Rattle.script_engine.specs.engine.Over.{StepOver}
 use Rattle.script_engine.specs.engine.Runs.{StepsTo}
 use Rattle.script_engine.specs.engine.Audits.{AuditedStepsTo}
-use Rattle.script_engine.specs.engine.Stored.{IfRepresents, RepresentsSome}
+use Rattle.script_engine.specs.engine.Stored.{RepresentsSome}
 use Rattle.script_engine.specs.script.AuditedRuns.{AuditedPieceStep, IsAuditedRunFrom, results_of}
 use Rattle.script_engine.specs.script.Script.{IsRunBy, IsRunFrom, KeptStepOver, PieceStep, PieceStepOver, RunPieces, StepPieces, TextApplies}
 use Rattle.statement_reports.specs.declared.entry.Entry.{Entry}
@@ -27,19 +25,6 @@ use Rattle.script_engine.proofs.PieceFacts.{pieces_next}
 pub stated_piece : {S : Type 0} (g : Ghosts S) (history : History) (piece : List Lexeme) (s : Statement) (result : Result Outcome Refusal) (engine : EngineState S) → NoneApplies (TextApplies piece) → IsStatement piece s → StepsTo g history s result engine →
     RepresentsSome g (PieceStep history piece result) engine
 stated_piece g history piece s result engine none spelled (new, step, kept) = (new, inr (s, none, spelled, step), kept)
-
--- over an engine too
-pub stated_over : {S : Type 0} (g : Ghosts S) (old : EngineState S) (piece : List Lexeme) (s : Statement) (result : Result Outcome Refusal) (new : EngineState S) → NoneApplies (TextApplies piece) → IsStatement piece s →
-    IfRepresents g old new (λ history. StepsTo g history s result new) → StepOver g old s result new → StatementFailsOnFault g old s result new → StatementLeavesHealthy g old s result new →
-    PieceStepOver g old piece result new
-stated_over g old piece s result new none spelled step over why healthy = inr (s, none, spelled, record { step = step; over = over; why = why; healthy = healthy })
-
--- of a statement whose answer is audited
-pub audited_over : {S : Type 0} (g : Ghosts S) (old : EngineState S) (piece : List Lexeme) (s : Statement) (entry : Entry) (new : EngineState S) → NoneApplies (TextApplies piece) → IsStatement piece s →
-    IfRepresents g old new (λ history. AuditedStepsTo g history s entry new) → StepOver g old s entry.result new → StatementFailsOnFault g old s entry.result new → StatementLeavesHealthy g old s entry.result new →
-    PieceStepOver g old piece entry.result new
-audited_over g old piece s entry new none spelled step over why healthy =
-    stated_over g old piece s entry.result new none spelled (λ usable history kept. let (last, is, after) = step usable history kept in (last, is.step, after)) over why healthy
 
 -- the step of a piece whose answer is audited
 pub audited_piece : {S : Type 0} (g : Ghosts S) (history : History) (piece : List Lexeme) (s : Statement) (entry : Entry) (engine : EngineState S) → NoneApplies (TextApplies piece) → IsStatement piece s → AuditedStepsTo g history s entry engine →

@@ -20,7 +20,7 @@ ghost use Rattle.script_engine.specs.engine.Healthy.{FailsOnFault, StatementFail
 ghost use Rattle.script_engine.specs.engine.Healthy.{StatementLeavesHealthy};
 ghost use Rattle.script_engine.specs.engine.InMemory.{IsSameInMemory};
 ghost use Rattle.script_engine.specs.engine.Opens.{IsUnopenedFor, Opens};
-ghost use Rattle.script_engine.specs.engine.Over.{StepOver};
+ghost use Rattle.script_engine.specs.engine.Over.{RunsOver, StepOver};
 ghost use Rattle.script_engine.specs.engine.Planned.{IsResolved};
 ghost use Rattle.script_engine.specs.engine.Runs.{IsQuery, MayRefuseMoment, MayRefuseQuery};
 ghost use Rattle.script_engine.specs.engine.Runs.{StepsTo};
@@ -395,25 +395,16 @@ impl<S: Alter> Engine<S> {
     /// of 1 to 31 or 40 holds, and over a healthy database only if there was a fault of it.
     pub fn execute(&mut self, alloc: Global, statement: &Statement) -> Result<Outcome, Refusal>
         // Whatever history the engine represents, the call is a step of it, and the engine then
-        // represents the new one.
-        ensures step { IfRepresents S.Store self.old self.new (λ history.
-            StepsTo S.Store history (plain statement.now) result self.new) }
+        // represents the new one. Whatever the database holds, the result is by the catalog and the
+        // clock in memory. Over a healthy database with room for what the statement adds, 62 comes
+        // of a fault alone, and a statement that is accepted leaves it healthy.
+        ensures runs { RunsOver S.Store self.old (plain statement.now) result self.new }
         ensures kept { KeepsOnErr S.Store self.old self.new result }
 
         // A query is refused with 62 only if there was a fault of the database.
         ensures queries { IfRepresents S.Store self.old self.new (λ history.
             IsQuery (plain statement.now)
             → IfErr result (MayRefuseQuery S.Store self.old self.new (plain statement.now))) }
-
-        // Over a healthy database with room for what the statement adds, 62 comes of a fault alone,
-        // and a statement that is accepted leaves it healthy.
-        ensures why { StatementFailsOnFault S.Store self.old (plain statement.now) result
-            self.new }
-        ensures healthy { StatementLeavesHealthy S.Store self.old (plain statement.now) result
-            self.new }
-
-        // And whatever the database holds:
-        ensures over { StepOver S.Store self.old (plain statement.now) result self.new }
         ensures others { SparesOthers S.Store self.old.connection self.new.connection }
     {
         match statement.form() {

@@ -1,6 +1,6 @@
 //! Pairs of rows that hold on the same days.
 
-ghost use Rattle.std.specs.Prelude.{◌≡◌, All, IfOk, OnOk};
+ghost use Rattle.std.specs.Prelude.{All, IfOk, OnOk};
 ghost use Rattle.temporal_model.specs.Snapshot.{Equivalent};
 ghost use Rattle.snapshot_audit.specs.Keys.{AreInOrder, HasPeriod};
 ghost use Rattle.snapshot_audit.specs.Pairs.{Adds, AreJoined, Begun, InAny, InEach, InMeetingPair};

@@ -1,7 +1,6 @@
 //! The rows of a query's selects on each day, as rows over periods, and the query's set by them.
 
-ghost use Rattle.std.specs.Prelude.{◌≡◌, ◌↔◌, ◌++◌, All, IfOk, IsTrue, List, OnOk, drop};
-ghost use Rattle.period_core.specs.declared.row.PeriodRow.{PeriodRow as Row};
+ghost use Rattle.std.specs.Prelude.{◌≡◌, ◌↔◌, All, IsTrue, OnOk, drop};
 ghost use Rattle.catalog_core.specs.query.Queries.{plain_query};
 ghost use Rattle.snapshot_audit.specs.Differences.{AddsRowsOf, InLists, is_combined, select_count};
 ghost use Rattle.snapshot_audit.specs.Staggered.{AreStaggered};

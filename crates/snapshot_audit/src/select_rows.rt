@@ -1,6 +1,6 @@
 //! The rows of a select on each day, as rows over periods.
 
-ghost use Rattle.std.specs.Prelude.{◌≡◌, ◌↔◌, ◌<◌, ◌∷◌, ℤ, [], List, IfOk, length};
+ghost use Rattle.std.specs.Prelude.{◌≡◌, ◌↔◌, ◌<◌, ℤ, List, IfOk, length};
 ghost use Rattle.period_core.specs.Calendar.{first_day, last_day};
 ghost use Rattle.period_core.specs.declared.value.Value.{Value as ColumnValue};
 ghost use Rattle.temporal_model.specs.Snapshot.{InSnapshot};

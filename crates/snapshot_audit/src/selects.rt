@@ -1,8 +1,8 @@
 //! The set of a select: the rows of its references side by side, its conditions, its select list.
 
-ghost use Rattle.std.specs.Prelude.{◌≡◌, ◌↔◌, ◌⊎◌, ◌++◌, List, Contains, IfOk, MatchOption, OnOk};
+ghost use Rattle.std.specs.Prelude.{◌↔◌, ◌⊎◌, List, Contains, IfOk, OnOk};
 ghost use Rattle.period_core.specs.declared.value.Value.{Value as ColumnValue};
-ghost use Rattle.history_model.specs.OrdinaryQuery.{InSelect, IsProjection, meets_all};
+ghost use Rattle.history_model.specs.OrdinaryQuery.{InSelect};
 ghost use Rattle.snapshot_audit.specs.ActiveRows.{VisibleInActive};
 ghost use Rattle.snapshot_audit.specs.Selections.{InRest, IsSelected};
 ghost use Rattle.snapshot_audit.specs.Sets.{ListsSet};

@@ -1,6 +1,6 @@
 //! AT, INSERT, UPDATE and DELETE, read from the front.
 
-ghost use Rattle.std.specs.Prelude.{◌≡◌, ◌≤◌, length, IfOk};
+ghost use Rattle.std.specs.Prelude.{◌≤◌, length, IfOk};
 ghost use Rattle.sql_front.specs.reading.ChangeReaders.{assignment_read, at_read, bounds_read};
 ghost use Rattle.sql_front.specs.reading.ChangeReaders.{columns_read, delete_read, deleted_read};
 ghost use Rattle.sql_front.specs.reading.ChangeReaders.{in_portion_read, insert_read};

@@ -1,6 +1,6 @@
 //! The columns of CREATE TABLE, read from the front.
 
-ghost use Rattle.std.specs.Prelude.{◌≡◌, ◌≤◌, length, IfOk, codes};
+ghost use Rattle.std.specs.Prelude.{◌≤◌, length, IfOk, codes};
 ghost use Rattle.sql_front.specs.reading.ElementReaders.{column_element_read, generated_read};
 ghost use Rattle.sql_front.specs.reading.ElementReaders.{length_read, not_null_read, row_end_read};
 ghost use Rattle.sql_front.specs.reading.ElementReaders.{timestamp_read, type_read};

@@ -1,6 +1,6 @@
 //! Columns and comparisons, read from the front.
 
-ghost use Rattle.std.specs.Prelude.{◌≡◌, ◌≤◌, length, IfOk};
+ghost use Rattle.std.specs.Prelude.{◌≤◌, length, IfOk};
 ghost use Rattle.sql_front.specs.reading.ConditionReaders.{column_read, comparison_read};
 ghost use Rattle.sql_front.specs.reading.ConditionReaders.{compare_read, operand_read};
 ghost use Rattle.sql_front.specs.reading.Gives.{Gives};

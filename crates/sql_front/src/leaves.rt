@@ -1,6 +1,6 @@
 //! Names and literals, read from the front.
 
-ghost use Rattle.std.specs.Prelude.{◌≡◌, ◌≤◌, ℕ, List, length, IfOk};
+ghost use Rattle.std.specs.Prelude.{◌≤◌, ℕ, List, length, IfOk};
 ghost use Rattle.period_core.specs.Encoding.{greatest_number};
 ghost use Rattle.period_core.specs.declared.value.Value as values;
 ghost use Rattle.sql_front.specs.reading.Gives.{Gives};

@@ -1,6 +1,6 @@
 //! Lists with commas.
 
-ghost use Rattle.std.specs.Prelude.{◌≡◌, ◌≤◌, ◌<◌, ℕ, List, length, map, Option, IfOk, codes};
+ghost use Rattle.std.specs.Prelude.{◌≤◌, ◌<◌, ℕ, List, length, map, Option, IfOk, codes};
 ghost use Rattle.sql_statements.specs.Lexemes.{Lexeme, lexemes};
 ghost use Rattle.sql_front.specs.Language.{symbol};
 ghost use Rattle.sql_front.specs.reading.Reading.{enclosed_read, separated_read};

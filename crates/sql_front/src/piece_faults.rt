@@ -1,6 +1,6 @@
 //! Faults of a piece, whatever its tokens spell.
 
-ghost use Rattle.std.specs.Prelude.{◌≡◌, ◌↔◌, false, IsTrue, IfSome, IfNone};
+ghost use Rattle.std.specs.Prelude.{◌↔◌, false, IsTrue, IfSome, IfNone};
 ghost use Rattle.period_core.specs.Leasts.{IsLeast, NoneApplies};
 ghost use Rattle.sql_statements.specs.Lexemes.{lexemes};
 ghost use Rattle.sql_front.specs.Depth.{IsDeeper, most_open};

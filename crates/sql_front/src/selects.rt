@@ -1,6 +1,6 @@
 //! SELECT DISTINCT, read from the front.
 
-ghost use Rattle.std.specs.Prelude.{◌≡◌, ◌≤◌, ◌<◌, List, length, map, IfOk};
+ghost use Rattle.std.specs.Prelude.{◌≡◌, ◌≤◌, ◌<◌, length, map, IfOk};
 ghost use Rattle.sql_front.specs.reading.Gives.{Gives};
 ghost use Rattle.sql_statements.specs.Lexemes.{lexemes};
 ghost use Rattle.sql_statements.specs.Plain.{plain_chain, plain_condition, plain_join};

@@ -1,6 +1,6 @@
 //! Stored queries, read from the front.
 
-ghost use Rattle.std.specs.Prelude.{◌≡◌, ◌≤◌, length, IfOk};
+ghost use Rattle.std.specs.Prelude.{◌≤◌, length, IfOk};
 ghost use Rattle.sql_front.specs.reading.Gives.{Gives};
 ghost use Rattle.sql_statements.specs.Lexemes.{lexemes};
 ghost use Rattle.sql_statements.specs.Plain.{plain_stored};

@@ -1,6 +1,6 @@
 //! CREATE TABLE, read from the front.
 
-ghost use Rattle.std.specs.Prelude.{◌≡◌, ◌≤◌, ◌<◌, ℕ, List, Some, length, map, IfOk, OnOk};
+ghost use Rattle.std.specs.Prelude.{◌≡◌, ◌≤◌, ◌<◌, Some, length, map, IfOk, OnOk};
 ghost use Rattle.sql_front.specs.reading.ElementReaders.{create_read, element_read, elements_read};
 ghost use Rattle.sql_front.specs.reading.ElementReaders.{some_period_read, created_table_read};
 ghost use Rattle.sql_front.specs.reading.ElementReaders.{versioning_read};

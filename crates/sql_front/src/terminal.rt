@@ -1,6 +1,6 @@
 //! Single tokens, read from the front.
 
-ghost use Rattle.std.specs.Prelude.{◌≡◌, true, List, ◌≤◌, ◌<◌, length, is_some, Some, IfOk, IfSome};
+ghost use Rattle.std.specs.Prelude.{◌≡◌, true, ◌≤◌, ◌<◌, length, is_some, Some, IfOk, IfSome};
 ghost use Rattle.std.specs.Str.{bytes_eq};
 ghost use Rattle.sql_statements.specs.Lexemes.{lexeme, lexemes};
 ghost use Rattle.sql_front.specs.Language.{number, text};

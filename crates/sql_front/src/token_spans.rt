@@ -1,6 +1,6 @@
 //! The tokens of a script by their places in it: twelve bytes for each, where a token takes forty.
 
-ghost use Rattle.std.specs.Prelude.{◌≡◌, ℕ, ◌+◌, ◌<◌, ◌≤◌, ◌^◌, All, IfOk, List, length, map};
+ghost use Rattle.std.specs.Prelude.{◌≡◌, ℕ, ◌+◌, ◌<◌, ◌^◌, All, IfOk, List, length, map};
 ghost use Rattle.sql_front.specs.declared.lexer.LexFault.TheVariants.{BadToken};
 ghost use Rattle.sql_front.specs.Pieces as pieces;
 ghost use Rattle.sql_front.specs.Pieces.{HasPieces, HasSpans, IsWithin, spanned};

@@ -3,7 +3,7 @@
 
 ghost use Rattle.std.specs.Prelude.{◌≡◌, ◌++◌, IfErr, OnOk};
 ghost use Rattle.std.specs.Io.KnownBytes.{Appends, append_known};
-ghost use Rattle.statement_reports.specs.AuditedReport.{audit_fields, audit_record};
+ghost use Rattle.statement_reports.specs.AuditedReport.{audit_record};
 ghost use Rattle.statement_reports.specs.AuditedReport.{audit_text, audited_report, entry_text};
 ghost use Rattle.statement_reports.specs.AuditedReport.{verdict_fields};
 ghost use Rattle.statement_reports.specs.Report.{MayFail};

@@ -1,7 +1,7 @@
 //! Rows that a plan ends together: those whose numbers in the database follow one another end in
 //! one statement.
 
-ghost use Rattle.std.specs.Prelude.{◌≡◌, ◌≤◌, ◌∷◌, [], IfErr, IfOk, IfSome, OnOk, length};
+ghost use Rattle.std.specs.Prelude.{◌≡◌, ◌≤◌, IfErr, IfOk, IfSome, OnOk, length};
 ghost use Rattle.std.specs.List.{AllByRecursion};
 ghost use Rattle.period_core.specs.Encoding.{encoded};
 ghost use Rattle.version_tables.specs.Healthy.{IsShort};

@@ -13,7 +13,7 @@ ghost use Rattle.version_tables.specs.Healthy.{CanAdd, IsNextNumber};
 ghost use Rattle.version_tables.specs.Steps.{ChangeFailsWithReason, ChangesRecords};
 ghost use Rattle.version_tables.specs.Steps.{CommitsNothing, NumbersOn, StaysHealthy};
 ghost use Rattle.version_tables.specs.Texts.{eight_text, four_text, one_text, two_text};
-ghost use Rattle.version_tables.specs.Texts.{numbered_text, thirty_two_text};
+ghost use Rattle.version_tables.specs.Texts.{thirty_two_text};
 
 use crate::version_key::NewRow;
 use sqlite::types::ValueRef;

@@ -1,7 +1,7 @@
 //! The columns and the references that a CREATE declares, with places for names, and the definition
 //! that a sound one gives.
 
-ghost use Rattle.std.specs.Prelude.{◌∷◌, ◌≡◌, ◌<◌, [], IfOk, IfSome, Some, false, true, is_none};
+ghost use Rattle.std.specs.Prelude.{◌∷◌, ◌≡◌, ◌<◌, [], IfOk, Some, false, true, is_none};
 ghost use Rattle.std.specs.Prelude.{is_some, length, map};
 ghost use Rattle.std.specs.List.{list_all, list_any};
 ghost use Rattle.sql_statements.specs.declared.create.KeyElement.{KeyElement};
@@ -14,9 +14,7 @@ ghost use Rattle.catalog_core.specs.create.Definition.{declared_key, declared_ki
 ghost use Rattle.catalog_core.specs.create.Definition.{declared_period, declared_reference};
 ghost use Rattle.catalog_core.specs.create.Definition.{is_reference_if_equal, own_place};
 ghost use Rattle.catalog_core.specs.create.Definition.{parent_of, reference_parts};
-ghost use Rattle.catalog_core.specs.table.IsDefinition.{are_places, is_reference};
-ghost use Rattle.catalog_core.specs.Limits.{number_limit};
-ghost use Rattle.catalog_core.specs.table.TableWords.{def_place, some_def_match};
+ghost use Rattle.catalog_core.specs.table.IsDefinition.{is_reference};
 ghost use Rattle.catalog_core.specs.declared.table.match_counts.MatchCount.TheVariants.{Zero};
 
 use crate::table::catalog::Catalog;

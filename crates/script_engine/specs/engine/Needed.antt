@@ -137,18 +137,6 @@ IsNeededAfter history starts lists conjuncts start reference =
     IsPrunedAfter (λ day values. AllZip (HasReadFrom day values) starts lists) conjuncts start
     (λ day. VisibleInHistory history day reference)
 
--- if the lists that were read are what the references of a select need, so are those that are read
--- now
-abbrev pub ReadMore
-    : TablesState → PlacedReferences → List (Option (List PeriodRow))
-    → List (Option (List PeriodRow)) → Type 0
-ReadMore tables select old new =
-    (history : History) → TablesRepresent history tables
-    → AllByRecursion (IsKnown (catalog_of history)) select.references.now
-    → select.starts.now ≡ starts_from 0 select.references.now
-    → AreRead history select.conjuncts.now select.references.now old
-    → AreRead history select.conjuncts.now select.references.now new
-
 -- each reference of a select has a start and a list
 abbrev pub HavePlaces : PlacedReferences → List (Option (List PeriodRow)) → Type 0
 HavePlaces select lists =
@@ -163,7 +151,14 @@ IsReadIn lists place = (rows : List PeriodRow) × (slice_get lists place ≡ Som
 abbrev pub AreReadBelow : List (Option (List PeriodRow)) → ℕ → Type 0
 AreReadBelow lists count = (place : ℕ) → place < count → IsReadIn lists place
 
--- there are as many lists, and those that were read are still read
-abbrev pub KeepRead : List (Option (List PeriodRow)) → List (Option (List PeriodRow)) → Type 0
-KeepRead old new =
-    (length new ≡ length old) × ((place : ℕ) → IsReadIn old place → IsReadIn new place)
+-- lists of a select are read on: there are as many, those that were read still are, and if those
+-- were what the references of the select need, these are too
+pub record ReadOn (tables : TablesState) (select : PlacedReferences)
+    (old new : List (Option (List PeriodRow))) : Type 0 where
+  pub count : length new ≡ length old
+  pub kept : (place : ℕ) → IsReadIn old place → IsReadIn new place
+  pub needed : (history : History) → TablesRepresent history tables
+      → AllByRecursion (IsKnown (catalog_of history)) select.references.now
+      → select.starts.now ≡ starts_from 0 select.references.now
+      → AreRead history select.conjuncts.now select.references.now old
+      → AreRead history select.conjuncts.now select.references.now new

@@ -10,12 +10,14 @@ use Rattle.version_tables.specs.Healthy.{IsHealthy}
 use Rattle.version_tables.specs.Making.{HasCounters}
 use Rattle.version_tables.specs.Presence.{HasNoStoreTable}
 use Rattle.version_tables.specs.Represents.{HaveOwnRowids}
+use Rattle.version_tables.specs.Steps.{IsAsBefore}
 use Rattle.version_tables.specs.Tables.{no_schema}
-use Rattle.version_tables.specs.declared.form.Form.TheVariants.{Seconds}
+use Rattle.version_tables.specs.declared.form.Form.TheVariants.{Microseconds, Seconds}
+use Rattle.version_store.specs.Contents.{Contents}
 use Rattle.version_store.specs.GoodStore.{IsGoodStore}
 use Rattle.version_store.specs.StoreState.{IsCreatedAfter, IsFailure, IsUsable}
 use Rattle.version_store.specs.StoreState.{OwnTablesAreWellFormed, SparesOthers}
-use Rattle.version_store.specs.Written.{IsMovable}
+use Rattle.version_store.specs.Written.{HasIn, IsMovable}
 use Rattle.script_engine.specs.engine.EngineState.{EngineState}
 use Rattle.script_engine.specs.engine.Faults.{AreConstrained}
 use Rattle.script_engine.specs.engine.Stored.{DatabaseRepresents, EngineRepresents, WasUsable}
@@ -40,6 +42,10 @@ pub record Opens {S : Type 0} (g : Ghosts S) (connection : Held S) (engine : Eng
       → IsCreatedAfter (state g connection) (state g engine.connection)
   pub empty : HasNoStoreTable (state g connection).now.schema
       → (engine.catalog.tables ≡ []) × (engine.clock ≡ first_moment)
+  -- a store of form 2 that was there is not written
+  pub unwritten : IsUsable g engine.connection
+      → (c : Contents) → HasIn Microseconds (state g connection).now c
+      → IsAsBefore (state g connection) (state g engine.connection)
   -- a new store in a database without tables is healthy, with room for as many versions as there
   -- are numbers; and a store that has tables is as healthy as it was
   pub healthy_new : IsUsable g engine.connection → (state g connection).now.schema ≡ no_schema

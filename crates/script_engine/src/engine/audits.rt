@@ -11,9 +11,8 @@ ghost use Rattle.version_store.specs.StoreState.{SparesOthers};
 ghost use Rattle.script_engine.specs.Headline.{IsSequencedAnswer};
 ghost use Rattle.script_engine.specs.engine.Answering.{IsOfCatalog};
 ghost use Rattle.script_engine.specs.engine.Audits.{AuditedStepsTo, IsAuditOf};
-ghost use Rattle.script_engine.specs.engine.Healthy.{StatementFailsOnFault};
 ghost use Rattle.script_engine.specs.engine.Healthy.{StatementLeavesHealthy};
-ghost use Rattle.script_engine.specs.engine.Over.{StepOver};
+ghost use Rattle.script_engine.specs.engine.Over.{RunsOver, StepOver};
 ghost use Rattle.script_engine.specs.engine.Runs.{IsQuery, MayRefuseQuery};
 ghost use Rattle.script_engine.specs.engine.Stored.{IfRepresents, KeepsOnErr, TablesRepresent};
 
@@ -85,25 +84,16 @@ impl<S: Alter> Engine<S> {
     /// that the answer agrees, or is refused for memory: either way the answer is given.
     pub fn execute_audited(&mut self, alloc: Global, statement: &Statement) -> Entry
         // Whatever history the engine represents, the call is a step of it, and the engine then
-        // represents the new one.
+        // represents the new one. The result alone is one of `execute`.
         ensures step { IfRepresents S.Store self.old self.new (λ history.
             AuditedStepsTo S.Store history (plain statement.now) result self.new) }
+        ensures runs { RunsOver S.Store self.old (plain statement.now) result.result self.new }
         ensures kept { KeepsOnErr S.Store self.old self.new result.result }
 
         // A query is refused with 62 only if there was a fault of the database.
         ensures queries { IfRepresents S.Store self.old self.new (λ history.
             IsQuery (plain statement.now) → IfErr result.result
             (MayRefuseQuery S.Store self.old self.new (plain statement.now))) }
-
-        // Over a healthy database with room for what the statement adds, 62 comes of a fault alone,
-        // and a statement that is accepted leaves it healthy.
-        ensures why { StatementFailsOnFault S.Store self.old (plain statement.now) result.result
-            self.new }
-        ensures healthy { StatementLeavesHealthy S.Store self.old (plain statement.now)
-            result.result self.new }
-
-        // And whatever the database holds:
-        ensures over { StepOver S.Store self.old (plain statement.now) result.result self.new }
         ensures others { SparesOthers S.Store self.old.connection self.new.connection }
     {
         match statement.form() {

@@ -21,9 +21,8 @@ use std::alloc::Global;
 /// The most rows after each of which the rows of another reference are looked up.
 const FEW: usize = 16;
 
-/// The most rows that are looked up before one row more of the earlier ones is looked at. Several
-/// can have one key, so that without it more rows might be copied than the table has.
-const MANY: usize = 4_096;
+/// The most rows that are looked up without a look at the size of their table.
+const MANY: usize = 256;
 
 /// The number of positions at which each of these rows has a given value.
 fn fixed_count(rows: &RowRange) -> usize
@@ -85,17 +84,29 @@ fn once_each(alloc: Global, rows: Vec<PeriodRow>, times: usize) -> Result<Vec<Pe
     Ok(rows)
 }
 
-/// Whether a reference sees few rows whatever the conditions are: its table has few keys, and few
-/// versions that have ended, if it may see them.
-pub fn sees_few(tables: &TablesInMemory, reference: &QueryReference) -> bool {
+/// The number of keys of a reference's table, and of its ended versions if the reference may see
+/// them.
+fn size_of(tables: &TablesInMemory, reference: &QueryReference) -> usize {
     let Some(table) = tables.table(reference.table) else {
-        return true;
+        return 0;
     };
     let ended = match reference.window {
         Window::Now => 0,
         _ => table.ended.len(),
     };
-    table.current.rows().groups().len() <= FEW && ended <= FEW
+    table.current.rows().groups().len().saturating_add(ended)
+}
+
+/// Whether a reference sees few rows whatever the conditions are.
+pub fn sees_few(tables: &TablesInMemory, reference: &QueryReference) -> bool {
+    size_of(tables, reference) <= FEW
+}
+
+/// Whether it is more work to go on looking rows up than to read a table of this size once: many
+/// were found after `seen` of the rows of a list, and as many after each of `all` make as many as
+/// the table has. Several rows of the list can have one key, so that they might even be more.
+fn are_too_many(found: usize, seen: usize, all: usize, size: usize) -> bool {
+    found > MANY && found.saturating_mul(all) >= size.saturating_mul(seen)
 }
 
 /// The rows of a reference's table that are needed in the combined rows that have those of one of
@@ -123,9 +134,10 @@ pub fn looked_up(
         return Ok(None);
     }
     let reference = conditions.reference;
+    let size = size_of(tables, reference);
     let mut rows = Vec::new(alloc);
-    for row in previous {
-        let known = row.values.as_slice();
+    for seen in 0..previous.len() {
+        let known = previous[seen].values.as_slice();
         let after = KnownConditions {
             conditions,
             known,
@@ -133,7 +145,8 @@ pub fn looked_up(
         };
         let left = tables.rows_left(alloc, reference.table, &after)?;
         let positions = tables.key_positions(reference.table);
-        if rows.len() > MANY || !is_narrower(&left, alone, positions) {
+        let too_many = are_too_many(rows.len(), seen, previous.len(), size);
+        if too_many || !is_narrower(&left, alone, positions) {
             return Ok(None);
         }
         let access = Access::of(reference, left);

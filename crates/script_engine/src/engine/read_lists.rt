@@ -8,7 +8,7 @@ ghost use Rattle.period_core.specs.declared.row.PeriodRow.{PeriodRow as Row};
 ghost use Rattle.history_model.specs.Histories.{History, catalog_of};
 ghost use Rattle.script_engine.specs.engine.Answering.{IsKnown};
 ghost use Rattle.script_engine.specs.engine.Needed.{AddNeeded, AreNeeded, AreReadBelow, HavePlaces};
-ghost use Rattle.script_engine.specs.engine.Needed.{IsReadIn, KeepRead, ReadMore, starts_from};
+ghost use Rattle.script_engine.specs.engine.Needed.{IsReadIn, ReadOn, starts_from};
 ghost use Rattle.script_engine.specs.engine.Stored.{TablesRepresent};
 
 use crate::engine::conditions::Conditions;
@@ -64,8 +64,7 @@ fn read_at(
     requires places { HavePlaces select.now lists.old.items }
     requires place { place < length select.now.references.now }
     ensures read { OnOk result
-        (ReadMore tables.old select.now lists.old.items lists.new.items) }
-    ensures kept { OnOk result (KeepRead lists.old.items lists.new.items) }
+        (ReadOn tables.old select.now lists.old.items lists.new.items) }
     ensures there { whole ≡ true → OnOk result (IsReadIn lists.new.items place) }
     ensures same { tables.new ≡ tables.old }
 {
@@ -92,8 +91,7 @@ fn read_next(
 ) -> Result<bool, Memory>
     requires { HavePlaces select.now lists.old.items }
     ensures read { OnOk result
-        (ReadMore tables.old select.now lists.old.items lists.new.items) }
-    ensures kept { OnOk result (KeepRead lists.old.items lists.new.items) }
+        (ReadOn tables.old select.now lists.old.items lists.new.items) }
     ensures same { tables.new ≡ tables.old }
 {
     for place in 0..select.references.len() {
@@ -114,8 +112,7 @@ fn read_one_more(
 ) -> Result<(), Memory>
     requires { HavePlaces select.now lists.old.items }
     ensures read { OnOk result
-        (ReadMore tables.old select.now lists.old.items lists.new.items) }
-    ensures kept { OnOk result (KeepRead lists.old.items lists.new.items) }
+        (ReadOn tables.old select.now lists.old.items lists.new.items) }
     ensures same { tables.new ≡ tables.old }
 {
     if read_next(alloc, tables, select, lists, false)? {
@@ -134,8 +131,7 @@ fn read_first(
 ) -> Result<(), Memory>
     requires { HavePlaces select.now lists.old.items }
     ensures read { OnOk result
-        (ReadMore tables.old select.now lists.old.items lists.new.items) }
-    ensures kept { OnOk result (KeepRead lists.old.items lists.new.items) }
+        (ReadOn tables.old select.now lists.old.items lists.new.items) }
     ensures same { tables.new ≡ tables.old }
 {
     for _more in 1..select.references.len() {
@@ -153,10 +149,9 @@ fn read_each(
 ) -> Result<(), Memory>
     requires { HavePlaces select.now lists.old.items }
     ensures read { OnOk result
-        (ReadMore tables.old select.now lists.old.items lists.new.items) }
+        (ReadOn tables.old select.now lists.old.items lists.new.items) }
     ensures all { OnOk result
         (AreReadBelow lists.new.items (length select.now.references.now)) }
-    ensures kept { OnOk result (KeepRead lists.old.items lists.new.items) }
     ensures same { tables.new ≡ tables.old }
 {
     read_first(alloc, tables, select, lists)?;

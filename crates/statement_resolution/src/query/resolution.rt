@@ -1,6 +1,6 @@
 //! A sequenced query: its refusal, or the query with positions in place of names.
 
-ghost use Rattle.std.specs.Prelude.{◌≡◌, IfErr, IfOk, OnOk};
+ghost use Rattle.std.specs.Prelude.{IfErr, IfOk, OnOk};
 ghost use Rattle.period_core.specs.Leasts.{MayAnswer, NoneApplies};
 ghost use Rattle.sql_statements.specs.Plain.{plain, plain_query};
 ghost use Rattle.sql_statements.specs.Trees.{sequenced};

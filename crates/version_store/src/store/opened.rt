@@ -177,7 +177,7 @@ impl<S: Alter> VersionStore<S> {
             → (form : AnyForm) (c : Contents) → HasIn form (state S.Store connection).now c
             → HaveTables (in_microseconds form c)) }
         ensures unchanged { IfOk result (λ found. IsUsable S.Store found.0.store.connection
-            → ((found.0.store.catalog.tables ≡ []) × (found.0.form ≡ Microseconds))
+            → HasNoStoreTable (state S.Store connection).now.schema
             ⊎ IsAsBefore (state S.Store connection) (state S.Store found.0.store.connection)) }
         ensures others { IfOk result (λ found.
             SparesOthers S.Store connection found.0.store.connection) }

@@ -1,4 +1,6 @@
 use Rattle.std.proofs.Common.{◌≡◌, ◌∙◌, List, Result, ap, subst, subst₂, sym}
+use Rattle.std.proofs.lemmas.Result.{IfErr-weaker}
+use Rattle.std.specs.Prelude.{IfErr}
 use Rattle.period_core.specs.declared.refusal.Refusal.{Refusal}
 use Rattle.sql_statements.specs.Plain.{plain, plain_delete, plain_form, plain_query, plain_stored, plain_update}
 use Rattle.sql_statements.specs.Trees.{Statement}
@@ -7,41 +9,35 @@ use Rattle.catalog_core.specs.declared.change.Change.{Change}
 use Rattle.catalog_core.specs.declared.table.TableDef.{TableDef}
 use Rattle.catalog_core.specs.declared.table.catalog.Catalog.{Catalog}
 use Rattle.statement_reports.specs.declared.outcome.Word.TheVariants as word
-use Rattle.script_engine.specs.engine.Planned.{IsResolved}
-use Rattle.script_engine.specs.engine.Runs.{StepsTo}
-use Rattle.std.specs.Prelude.{IfErr}
 use Rattle.version_store.specs.StoreState.{SparesOthers}
 use Rattle.script_engine.specs.engine.EngineState.{EngineState}
-use Rattle.script_engine.specs.engine.Over.{StepOver}
-use Rattle.script_engine.specs.engine.Stored.{EngineRepresents, KeepsOnErr}
+use Rattle.script_engine.specs.engine.Over.{RunsOver}
+use Rattle.script_engine.specs.engine.Planned.{IsResolved}
 use Rattle.script_engine.specs.engine.Runs.{IsQuery, MayRefuseQuery}
-use Rattle.script_engine.proofs.Resolved.{resolved_delete, resolved_insert, resolved_update}
-use Rattle.std.proofs.lemmas.Result.{IfErr-weaker}
-use Rattle.script_engine.specs.engine.Healthy.{StatementFailsOnFault, StatementLeavesHealthy}
+use Rattle.script_engine.specs.engine.Stored.{KeepsOnErr}
 use Rattle.script_engine.proofs.OnFault.{asked_by_fault}
+use Rattle.script_engine.proofs.Resolved.{resolved_delete, resolved_insert, resolved_update}
 use Rattle.script_engine.proofs.engine.Engine.execute.Goals as goal
 
-pub returns-in-Sequenced-clause-step : goal.returns-in-Sequenced-clause-step
-returns-in-Sequenced-clause-step g c = λ usable history kept.
-    let said : statement.sequenced (plain_query c.in-Sequenced.query) ≡ plain c.args.statement.now =
-    ap plain_form (sym c.in-Sequenced.is) ∙ c.form.ensures in
-    subst (λ (s : Statement). StepsTo g.S.Store history s c.answer.result c.answer.new.self) said (c.answer.ensures.step usable history kept)
-
-pub returns-in-At-clause-step : goal.returns-in-At-clause-step
-returns-in-At-clause-step g c = λ usable history kept.
+pub returns-in-At-clause-runs : goal.returns-in-At-clause-runs
+returns-in-At-clause-runs g c =
     let said : statement.at c.in-At.moment ≡ plain c.args.statement.now = ap plain_form (sym c.in-At.is) ∙ c.form.ensures in
-    subst (λ (s : Statement). StepsTo g.S.Store history s c.advance.result c.advance.new.self) said (c.advance.ensures.step usable history kept)
+    subst (λ (s : Statement). RunsOver g.S.Store c.args.self.now s c.advance.result c.advance.new.self) said (record {
+      step = c.advance.ensures.step;
+      over = c.advance.ensures.over;
+      why = c.advance.ensures.why;
+      healthy = c.advance.ensures.healthy;
+    })
 
-pub returns-in-Create-clause-step : goal.returns-in-Create-clause-step
-returns-in-Create-clause-step g c = λ usable history kept.
-    let said : statement.create c.table.result.now ≡ plain c.args.statement.now =
-    ap statement.create c.table.ensures.value ∙ ap plain_form (sym c.in-Create.is) ∙ c.form.ensures in
-    subst (λ (s : Statement). StepsTo g.S.Store history s c.create.result c.create.new.self) said (c.create.ensures.step usable history kept)
-
-pub returns-in-Stored-clause-step : goal.returns-in-Stored-clause-step
-returns-in-Stored-clause-step g c = λ usable history kept.
-    let said : statement.stored (plain_stored c.in-Stored.query) ≡ plain c.args.statement.now = ap plain_form (sym c.in-Stored.is) ∙ c.form.ensures in
-    subst (λ (s : Statement). StepsTo g.S.Store history s c.show.result c.show.new.self) said (c.show.ensures.step usable history kept)
+pub returns-in-Create-clause-runs : goal.returns-in-Create-clause-runs
+returns-in-Create-clause-runs g c =
+    let said : statement.create c.table.result.now ≡ plain c.args.statement.now = ap statement.create c.table.ensures.value ∙ ap plain_form (sym c.in-Create.is) ∙ c.form.ensures in
+    subst (λ (s : Statement). RunsOver g.S.Store c.args.self.now s c.create.result c.create.new.self) said (record {
+      step = c.create.ensures.step;
+      over = c.create.ensures.over;
+      why = c.create.ensures.why;
+      healthy = c.create.ensures.healthy;
+    })
 
 pub change-requires : goal.change-requires
 change-requires g c =
@@ -52,23 +48,20 @@ change-requires g c =
     subst₂ (λ (tables : List TableDef) (s : Statement). IsResolved tables s word.Insert r) same said (resolved_insert c.catalog.result.now.tables c.in-Insert.insert r c.resolve_insert-resolved.ensures.sound c.resolve_insert-resolved.ensures.resolved c.resolve_insert-resolved.ensures.empty c.resolve_insert-resolved.ensures.refused) in
     (plain c.args.statement.now, known)
 
-pub returns-in-Insert-clause-step : goal.returns-in-Insert-clause-step
-returns-in-Insert-clause-step g c = λ usable history kept.
+pub returns-in-Insert-clause-runs : goal.returns-in-Insert-clause-runs
+returns-in-Insert-clause-runs g c =
     let r : Result Change Refusal = c.resolve_insert-resolved.result in
     let same : c.catalog.result.now.tables ≡ c.args.self.now.catalog.tables = ap (λ (k : Catalog). k.tables) c.catalog.ensures in
     let said : statement.insert c.in-Insert.insert ≡ plain c.args.statement.now = ap plain_form (sym c.in-Insert.is) ∙ c.form.ensures in
     let known : IsResolved c.args.self.now.catalog.tables (plain c.args.statement.now) word.Insert r =
     subst₂ (λ (tables : List TableDef) (s : Statement). IsResolved tables s word.Insert r) same said (resolved_insert c.catalog.result.now.tables c.in-Insert.insert r c.resolve_insert-resolved.ensures.sound c.resolve_insert-resolved.ensures.resolved c.resolve_insert-resolved.ensures.empty c.resolve_insert-resolved.ensures.refused) in
-    c.change.ensures.step usable history kept (plain c.args.statement.now) known
-
-pub returns-in-Insert-clause-over : goal.returns-in-Insert-clause-over
-returns-in-Insert-clause-over g c =
-    let r : Result Change Refusal = c.resolve_insert-resolved.result in
-    let same : c.catalog.result.now.tables ≡ c.args.self.now.catalog.tables = ap (λ (k : Catalog). k.tables) c.catalog.ensures in
-    let said : statement.insert c.in-Insert.insert ≡ plain c.args.statement.now = ap plain_form (sym c.in-Insert.is) ∙ c.form.ensures in
-    let known : IsResolved c.args.self.now.catalog.tables (plain c.args.statement.now) word.Insert r =
-    subst₂ (λ (tables : List TableDef) (s : Statement). IsResolved tables s word.Insert r) same said (resolved_insert c.catalog.result.now.tables c.in-Insert.insert r c.resolve_insert-resolved.ensures.sound c.resolve_insert-resolved.ensures.resolved c.resolve_insert-resolved.ensures.empty c.resolve_insert-resolved.ensures.refused) in
-    c.change.ensures.over (plain c.args.statement.now) known
+    let s : Statement = plain c.args.statement.now in
+    record {
+      step = λ usable history kept. c.change.ensures.step usable history kept s known;
+      over = c.change.ensures.over s known;
+      why = c.change.ensures.why s known;
+      healthy = c.change.ensures.healthy s known;
+    }
 
 pub change-requires-in-Update : goal.change-requires-in-Update
 change-requires-in-Update g c =
@@ -79,25 +72,21 @@ change-requires-in-Update g c =
     subst₂ (λ (tables : List TableDef) (s : Statement). IsResolved tables s word.Update r) same said (resolved_update c.catalog-in-Update.result.now.tables (plain_update c.in-Update.update) r c.resolve_update-resolved.ensures.sound c.resolve_update-resolved.ensures.resolved c.resolve_update-resolved.ensures.refused) in
     (plain c.args.statement.now, subst (λ (e : EngineState g.row.S.Denot). IsResolved e.catalog.tables (plain c.args.statement.now) word.Update r) (sym c.prepare.ensures) known)
 
-pub returns-in-Update-clause-step : goal.returns-in-Update-clause-step
-returns-in-Update-clause-step g c = λ usable history kept.
+pub returns-in-Update-clause-runs : goal.returns-in-Update-clause-runs
+returns-in-Update-clause-runs g c =
     let r : Result Change Refusal = c.resolve_update-resolved.result in
     let same : c.catalog-in-Update.result.now.tables ≡ c.args.self.now.catalog.tables = ap (λ (k : Catalog). k.tables) c.catalog-in-Update.ensures in
     let said : statement.update (plain_update c.in-Update.update) ≡ plain c.args.statement.now = ap plain_form (sym c.in-Update.is) ∙ c.form.ensures in
     let known : IsResolved c.args.self.now.catalog.tables (plain c.args.statement.now) word.Update r =
     subst₂ (λ (tables : List TableDef) (s : Statement). IsResolved tables s word.Update r) same said (resolved_update c.catalog-in-Update.result.now.tables (plain_update c.in-Update.update) r c.resolve_update-resolved.ensures.sound c.resolve_update-resolved.ensures.resolved c.resolve_update-resolved.ensures.refused) in
-    c.change-in-Update.ensures.step usable history (subst (EngineRepresents g.S.Store history) (sym c.prepare.ensures) kept) (plain c.args.statement.now)
-    (subst (λ (e : EngineState g.row.S.Denot). IsResolved e.catalog.tables (plain c.args.statement.now) word.Update r) (sym c.prepare.ensures) known)
-
-pub returns-in-Update-clause-over : goal.returns-in-Update-clause-over
-returns-in-Update-clause-over g c =
-    let r : Result Change Refusal = c.resolve_update-resolved.result in
-    let same : c.catalog-in-Update.result.now.tables ≡ c.args.self.now.catalog.tables = ap (λ (k : Catalog). k.tables) c.catalog-in-Update.ensures in
-    let said : statement.update (plain_update c.in-Update.update) ≡ plain c.args.statement.now = ap plain_form (sym c.in-Update.is) ∙ c.form.ensures in
-    let known : IsResolved c.args.self.now.catalog.tables (plain c.args.statement.now) word.Update r =
-    subst₂ (λ (tables : List TableDef) (s : Statement). IsResolved tables s word.Update r) same said (resolved_update c.catalog-in-Update.result.now.tables (plain_update c.in-Update.update) r c.resolve_update-resolved.ensures.sound c.resolve_update-resolved.ensures.resolved c.resolve_update-resolved.ensures.refused) in
-    subst (λ (e : EngineState g.row.S.Denot). StepOver g.S.Store e (plain c.args.statement.now) c.change-in-Update.result c.change-in-Update.new.self) c.prepare.ensures
-    (c.change-in-Update.ensures.over (plain c.args.statement.now) (subst (λ (e : EngineState g.row.S.Denot). IsResolved e.catalog.tables (plain c.args.statement.now) word.Update r) (sym c.prepare.ensures) known))
+    let s : Statement = plain c.args.statement.now in
+    let prepared = subst (λ (e : EngineState g.row.S.Denot). IsResolved e.catalog.tables s word.Update r) (sym c.prepare.ensures) known in
+    subst (λ (e : EngineState g.row.S.Denot). RunsOver g.S.Store e s c.change-in-Update.result c.change-in-Update.new.self) c.prepare.ensures (record {
+      step = λ usable history kept. c.change-in-Update.ensures.step usable history kept s prepared;
+      over = c.change-in-Update.ensures.over s prepared;
+      why = c.change-in-Update.ensures.why s prepared;
+      healthy = c.change-in-Update.ensures.healthy s prepared;
+    })
 
 pub change-requires-in-Delete : goal.change-requires-in-Delete
 change-requires-in-Delete g c =
@@ -108,45 +97,43 @@ change-requires-in-Delete g c =
     subst₂ (λ (tables : List TableDef) (s : Statement). IsResolved tables s word.Delete r) same said (resolved_delete c.catalog-in-Delete.result.now.tables (plain_delete c.in-Delete.delete) r c.resolve_delete-resolved.ensures.sound c.resolve_delete-resolved.ensures.resolved c.resolve_delete-resolved.ensures.refused) in
     (plain c.args.statement.now, subst (λ (e : EngineState g.row.S.Denot). IsResolved e.catalog.tables (plain c.args.statement.now) word.Delete r) (sym c.prepare-in-Delete.ensures) known)
 
-pub returns-in-Delete-clause-step : goal.returns-in-Delete-clause-step
-returns-in-Delete-clause-step g c = λ usable history kept.
+pub returns-in-Delete-clause-runs : goal.returns-in-Delete-clause-runs
+returns-in-Delete-clause-runs g c =
     let r : Result Change Refusal = c.resolve_delete-resolved.result in
     let same : c.catalog-in-Delete.result.now.tables ≡ c.args.self.now.catalog.tables = ap (λ (k : Catalog). k.tables) c.catalog-in-Delete.ensures in
     let said : statement.delete (plain_delete c.in-Delete.delete) ≡ plain c.args.statement.now = ap plain_form (sym c.in-Delete.is) ∙ c.form.ensures in
     let known : IsResolved c.args.self.now.catalog.tables (plain c.args.statement.now) word.Delete r =
     subst₂ (λ (tables : List TableDef) (s : Statement). IsResolved tables s word.Delete r) same said (resolved_delete c.catalog-in-Delete.result.now.tables (plain_delete c.in-Delete.delete) r c.resolve_delete-resolved.ensures.sound c.resolve_delete-resolved.ensures.resolved c.resolve_delete-resolved.ensures.refused) in
-    c.change-in-Delete.ensures.step usable history (subst (EngineRepresents g.S.Store history) (sym c.prepare-in-Delete.ensures) kept) (plain c.args.statement.now)
-    (subst (λ (e : EngineState g.row.S.Denot). IsResolved e.catalog.tables (plain c.args.statement.now) word.Delete r) (sym c.prepare-in-Delete.ensures) known)
+    let s : Statement = plain c.args.statement.now in
+    let prepared = subst (λ (e : EngineState g.row.S.Denot). IsResolved e.catalog.tables s word.Delete r) (sym c.prepare-in-Delete.ensures) known in
+    subst (λ (e : EngineState g.row.S.Denot). RunsOver g.S.Store e s c.change-in-Delete.result c.change-in-Delete.new.self) c.prepare-in-Delete.ensures (record {
+      step = λ usable history kept. c.change-in-Delete.ensures.step usable history kept s prepared;
+      over = c.change-in-Delete.ensures.over s prepared;
+      why = c.change-in-Delete.ensures.why s prepared;
+      healthy = c.change-in-Delete.ensures.healthy s prepared;
+    })
 
-pub returns-in-Delete-clause-over : goal.returns-in-Delete-clause-over
-returns-in-Delete-clause-over g c =
-    let r : Result Change Refusal = c.resolve_delete-resolved.result in
-    let same : c.catalog-in-Delete.result.now.tables ≡ c.args.self.now.catalog.tables = ap (λ (k : Catalog). k.tables) c.catalog-in-Delete.ensures in
-    let said : statement.delete (plain_delete c.in-Delete.delete) ≡ plain c.args.statement.now = ap plain_form (sym c.in-Delete.is) ∙ c.form.ensures in
-    let known : IsResolved c.args.self.now.catalog.tables (plain c.args.statement.now) word.Delete r =
-    subst₂ (λ (tables : List TableDef) (s : Statement). IsResolved tables s word.Delete r) same said (resolved_delete c.catalog-in-Delete.result.now.tables (plain_delete c.in-Delete.delete) r c.resolve_delete-resolved.ensures.sound c.resolve_delete-resolved.ensures.resolved c.resolve_delete-resolved.ensures.refused) in
-    subst (λ (e : EngineState g.row.S.Denot). StepOver g.S.Store e (plain c.args.statement.now) c.change-in-Delete.result c.change-in-Delete.new.self) c.prepare-in-Delete.ensures
-    (c.change-in-Delete.ensures.over (plain c.args.statement.now) (subst (λ (e : EngineState g.row.S.Denot). IsResolved e.catalog.tables (plain c.args.statement.now) word.Delete r) (sym c.prepare-in-Delete.ensures) known))
-
-pub returns-in-Sequenced-clause-over : goal.returns-in-Sequenced-clause-over
-returns-in-Sequenced-clause-over g c =
+pub returns-in-Sequenced-clause-runs : goal.returns-in-Sequenced-clause-runs
+returns-in-Sequenced-clause-runs g c =
     let said : statement.sequenced (plain_query c.in-Sequenced.query) ≡ plain c.args.statement.now = ap plain_form (sym c.in-Sequenced.is) ∙ c.form.ensures in
-    subst (λ (s : Statement). StepOver g.S.Store c.args.self.now s c.answer.result c.answer.new.self) said c.answer.ensures.over
+    subst (λ (s : Statement). RunsOver g.S.Store c.args.self.now s c.answer.result c.answer.new.self) said (record {
+      step = c.answer.ensures.step;
+      over = c.answer.ensures.over;
+      why = λ usable history kept room. IfErr-weaker c.answer.result _ _ (λ refusal may told. asked_by_fault g.S.Store c.args.self.now c.answer.new.self (statement.sequenced (plain_query c.in-Sequenced.query)) refusal tt may told) (c.answer.ensures.queries usable history kept);
+      healthy = c.answer.ensures.healthy;
+    })
 
-pub returns-in-At-clause-over : goal.returns-in-At-clause-over
-returns-in-At-clause-over g c =
-    let said : statement.at c.in-At.moment ≡ plain c.args.statement.now = ap plain_form (sym c.in-At.is) ∙ c.form.ensures in
-    subst (λ (s : Statement). StepOver g.S.Store c.args.self.now s c.advance.result c.advance.new.self) said c.advance.ensures.over
-
-pub returns-in-Create-clause-over : goal.returns-in-Create-clause-over
-returns-in-Create-clause-over g c =
-    let said : statement.create c.table.result.now ≡ plain c.args.statement.now = ap statement.create c.table.ensures.value ∙ ap plain_form (sym c.in-Create.is) ∙ c.form.ensures in
-    subst (λ (s : Statement). StepOver g.S.Store c.args.self.now s c.create.result c.create.new.self) said c.create.ensures.over
-
-pub returns-in-Stored-clause-over : goal.returns-in-Stored-clause-over
-returns-in-Stored-clause-over g c =
+pub returns-in-Stored-clause-runs : goal.returns-in-Stored-clause-runs
+returns-in-Stored-clause-runs g c =
     let said : statement.stored (plain_stored c.in-Stored.query) ≡ plain c.args.statement.now = ap plain_form (sym c.in-Stored.is) ∙ c.form.ensures in
-    subst (λ (s : Statement). StepOver g.S.Store c.args.self.now s c.show.result c.show.new.self) said c.show.ensures.over
+    subst (λ (s : Statement). RunsOver g.S.Store c.args.self.now s c.show.result c.show.new.self) said (record {
+      step = c.show.ensures.step;
+      over = c.show.ensures.over;
+      why = λ usable history kept room. IfErr-weaker c.show.result _ _ (λ refusal may told. asked_by_fault g.S.Store c.args.self.now c.show.new.self (statement.stored (plain_stored c.in-Stored.query)) refusal tt may told) (c.show.ensures.queries usable history kept);
+      healthy = c.show.ensures.healthy;
+    })
+
+-- ---- queries
 
 pub returns-in-Sequenced-clause-queries : goal.returns-in-Sequenced-clause-queries
 returns-in-Sequenced-clause-queries g c = λ usable history kept asks.
@@ -172,108 +159,6 @@ returns-in-Update-clause-queries g c = λ usable history kept asks. absurd (subs
 
 pub returns-in-Delete-clause-queries : goal.returns-in-Delete-clause-queries
 returns-in-Delete-clause-queries g c = λ usable history kept asks. absurd (subst IsQuery (sym c.form.ensures ∙ ap plain_form c.in-Delete.is) asks)
-
--- ---- 62 is due to a fault
-
-pub returns-in-At-clause-why : goal.returns-in-At-clause-why
-returns-in-At-clause-why g c =
-    let said : statement.at c.in-At.moment ≡ plain c.args.statement.now = ap plain_form (sym c.in-At.is) ∙ c.form.ensures in
-    subst (λ (s : Statement). StatementFailsOnFault g.S.Store c.args.self.now s c.advance.result c.advance.new.self) said c.advance.ensures.why
-
-pub returns-in-Create-clause-why : goal.returns-in-Create-clause-why
-returns-in-Create-clause-why g c =
-    let said : statement.create c.table.result.now ≡ plain c.args.statement.now = ap statement.create c.table.ensures.value ∙ ap plain_form (sym c.in-Create.is) ∙ c.form.ensures in
-    subst (λ (s : Statement). StatementFailsOnFault g.S.Store c.args.self.now s c.create.result c.create.new.self) said c.create.ensures.why
-
-pub returns-in-Insert-clause-why : goal.returns-in-Insert-clause-why
-returns-in-Insert-clause-why g c =
-    let r : Result Change Refusal = c.resolve_insert-resolved.result in
-    let same : c.catalog.result.now.tables ≡ c.args.self.now.catalog.tables = ap (λ (k : Catalog). k.tables) c.catalog.ensures in
-    let said : statement.insert c.in-Insert.insert ≡ plain c.args.statement.now = ap plain_form (sym c.in-Insert.is) ∙ c.form.ensures in
-    let known : IsResolved c.args.self.now.catalog.tables (plain c.args.statement.now) word.Insert r =
-    subst₂ (λ (tables : List TableDef) (s : Statement). IsResolved tables s word.Insert r) same said (resolved_insert c.catalog.result.now.tables c.in-Insert.insert r c.resolve_insert-resolved.ensures.sound c.resolve_insert-resolved.ensures.resolved c.resolve_insert-resolved.ensures.empty c.resolve_insert-resolved.ensures.refused) in
-    c.change.ensures.why (plain c.args.statement.now) known
-
-pub returns-in-Update-clause-why : goal.returns-in-Update-clause-why
-returns-in-Update-clause-why g c =
-    let r : Result Change Refusal = c.resolve_update-resolved.result in
-    let same : c.catalog-in-Update.result.now.tables ≡ c.args.self.now.catalog.tables = ap (λ (k : Catalog). k.tables) c.catalog-in-Update.ensures in
-    let said : statement.update (plain_update c.in-Update.update) ≡ plain c.args.statement.now = ap plain_form (sym c.in-Update.is) ∙ c.form.ensures in
-    let known : IsResolved c.args.self.now.catalog.tables (plain c.args.statement.now) word.Update r =
-    subst₂ (λ (tables : List TableDef) (s : Statement). IsResolved tables s word.Update r) same said (resolved_update c.catalog-in-Update.result.now.tables (plain_update c.in-Update.update) r c.resolve_update-resolved.ensures.sound c.resolve_update-resolved.ensures.resolved c.resolve_update-resolved.ensures.refused) in
-    subst (λ (e : EngineState g.row.S.Denot). StatementFailsOnFault g.S.Store e (plain c.args.statement.now) c.change-in-Update.result c.change-in-Update.new.self) c.prepare.ensures
-    (c.change-in-Update.ensures.why (plain c.args.statement.now) (subst (λ (e : EngineState g.row.S.Denot). IsResolved e.catalog.tables (plain c.args.statement.now) word.Update r) (sym c.prepare.ensures) known))
-
-pub returns-in-Delete-clause-why : goal.returns-in-Delete-clause-why
-returns-in-Delete-clause-why g c =
-    let r : Result Change Refusal = c.resolve_delete-resolved.result in
-    let same : c.catalog-in-Delete.result.now.tables ≡ c.args.self.now.catalog.tables = ap (λ (k : Catalog). k.tables) c.catalog-in-Delete.ensures in
-    let said : statement.delete (plain_delete c.in-Delete.delete) ≡ plain c.args.statement.now = ap plain_form (sym c.in-Delete.is) ∙ c.form.ensures in
-    let known : IsResolved c.args.self.now.catalog.tables (plain c.args.statement.now) word.Delete r =
-    subst₂ (λ (tables : List TableDef) (s : Statement). IsResolved tables s word.Delete r) same said (resolved_delete c.catalog-in-Delete.result.now.tables (plain_delete c.in-Delete.delete) r c.resolve_delete-resolved.ensures.sound c.resolve_delete-resolved.ensures.resolved c.resolve_delete-resolved.ensures.refused) in
-    subst (λ (e : EngineState g.row.S.Denot). StatementFailsOnFault g.S.Store e (plain c.args.statement.now) c.change-in-Delete.result c.change-in-Delete.new.self) c.prepare-in-Delete.ensures
-    (c.change-in-Delete.ensures.why (plain c.args.statement.now) (subst (λ (e : EngineState g.row.S.Denot). IsResolved e.catalog.tables (plain c.args.statement.now) word.Delete r) (sym c.prepare-in-Delete.ensures) known))
-
-pub returns-in-Sequenced-clause-why : goal.returns-in-Sequenced-clause-why
-returns-in-Sequenced-clause-why g c = λ usable history kept room.
-    let asked : Statement = statement.sequenced (plain_query c.in-Sequenced.query) in
-    IfErr-weaker c.answer.result _ _ (λ refusal may told. asked_by_fault g.S.Store c.args.self.now c.answer.new.self asked refusal tt may told) (c.answer.ensures.queries usable history kept)
-
-pub returns-in-Stored-clause-why : goal.returns-in-Stored-clause-why
-returns-in-Stored-clause-why g c = λ usable history kept room.
-    let asked : Statement = statement.stored (plain_stored c.in-Stored.query) in
-    IfErr-weaker c.show.result _ _ (λ refusal may told. asked_by_fault g.S.Store c.args.self.now c.show.new.self asked refusal tt may told) (c.show.ensures.queries usable history kept)
-
--- ---- the database stays healthy
-
-pub returns-in-At-clause-healthy : goal.returns-in-At-clause-healthy
-returns-in-At-clause-healthy g c =
-    let said : statement.at c.in-At.moment ≡ plain c.args.statement.now = ap plain_form (sym c.in-At.is) ∙ c.form.ensures in
-    subst (λ (s : Statement). StatementLeavesHealthy g.S.Store c.args.self.now s c.advance.result c.advance.new.self) said c.advance.ensures.healthy
-
-pub returns-in-Create-clause-healthy : goal.returns-in-Create-clause-healthy
-returns-in-Create-clause-healthy g c =
-    let said : statement.create c.table.result.now ≡ plain c.args.statement.now = ap statement.create c.table.ensures.value ∙ ap plain_form (sym c.in-Create.is) ∙ c.form.ensures in
-    subst (λ (s : Statement). StatementLeavesHealthy g.S.Store c.args.self.now s c.create.result c.create.new.self) said c.create.ensures.healthy
-
-pub returns-in-Insert-clause-healthy : goal.returns-in-Insert-clause-healthy
-returns-in-Insert-clause-healthy g c =
-    let r : Result Change Refusal = c.resolve_insert-resolved.result in
-    let same : c.catalog.result.now.tables ≡ c.args.self.now.catalog.tables = ap (λ (k : Catalog). k.tables) c.catalog.ensures in
-    let said : statement.insert c.in-Insert.insert ≡ plain c.args.statement.now = ap plain_form (sym c.in-Insert.is) ∙ c.form.ensures in
-    let known : IsResolved c.args.self.now.catalog.tables (plain c.args.statement.now) word.Insert r =
-    subst₂ (λ (tables : List TableDef) (s : Statement). IsResolved tables s word.Insert r) same said (resolved_insert c.catalog.result.now.tables c.in-Insert.insert r c.resolve_insert-resolved.ensures.sound c.resolve_insert-resolved.ensures.resolved c.resolve_insert-resolved.ensures.empty c.resolve_insert-resolved.ensures.refused) in
-    c.change.ensures.healthy (plain c.args.statement.now) known
-
-pub returns-in-Update-clause-healthy : goal.returns-in-Update-clause-healthy
-returns-in-Update-clause-healthy g c =
-    let r : Result Change Refusal = c.resolve_update-resolved.result in
-    let same : c.catalog-in-Update.result.now.tables ≡ c.args.self.now.catalog.tables = ap (λ (k : Catalog). k.tables) c.catalog-in-Update.ensures in
-    let said : statement.update (plain_update c.in-Update.update) ≡ plain c.args.statement.now = ap plain_form (sym c.in-Update.is) ∙ c.form.ensures in
-    let known : IsResolved c.args.self.now.catalog.tables (plain c.args.statement.now) word.Update r =
-    subst₂ (λ (tables : List TableDef) (s : Statement). IsResolved tables s word.Update r) same said (resolved_update c.catalog-in-Update.result.now.tables (plain_update c.in-Update.update) r c.resolve_update-resolved.ensures.sound c.resolve_update-resolved.ensures.resolved c.resolve_update-resolved.ensures.refused) in
-    subst (λ (e : EngineState g.row.S.Denot). StatementLeavesHealthy g.S.Store e (plain c.args.statement.now) c.change-in-Update.result c.change-in-Update.new.self) c.prepare.ensures
-    (c.change-in-Update.ensures.healthy (plain c.args.statement.now) (subst (λ (e : EngineState g.row.S.Denot). IsResolved e.catalog.tables (plain c.args.statement.now) word.Update r) (sym c.prepare.ensures) known))
-
-pub returns-in-Delete-clause-healthy : goal.returns-in-Delete-clause-healthy
-returns-in-Delete-clause-healthy g c =
-    let r : Result Change Refusal = c.resolve_delete-resolved.result in
-    let same : c.catalog-in-Delete.result.now.tables ≡ c.args.self.now.catalog.tables = ap (λ (k : Catalog). k.tables) c.catalog-in-Delete.ensures in
-    let said : statement.delete (plain_delete c.in-Delete.delete) ≡ plain c.args.statement.now = ap plain_form (sym c.in-Delete.is) ∙ c.form.ensures in
-    let known : IsResolved c.args.self.now.catalog.tables (plain c.args.statement.now) word.Delete r =
-    subst₂ (λ (tables : List TableDef) (s : Statement). IsResolved tables s word.Delete r) same said (resolved_delete c.catalog-in-Delete.result.now.tables (plain_delete c.in-Delete.delete) r c.resolve_delete-resolved.ensures.sound c.resolve_delete-resolved.ensures.resolved c.resolve_delete-resolved.ensures.refused) in
-    subst (λ (e : EngineState g.row.S.Denot). StatementLeavesHealthy g.S.Store e (plain c.args.statement.now) c.change-in-Delete.result c.change-in-Delete.new.self) c.prepare-in-Delete.ensures
-    (c.change-in-Delete.ensures.healthy (plain c.args.statement.now) (subst (λ (e : EngineState g.row.S.Denot). IsResolved e.catalog.tables (plain c.args.statement.now) word.Delete r) (sym c.prepare-in-Delete.ensures) known))
-
-pub returns-in-Sequenced-clause-healthy : goal.returns-in-Sequenced-clause-healthy
-returns-in-Sequenced-clause-healthy g c =
-    let said : statement.sequenced (plain_query c.in-Sequenced.query) ≡ plain c.args.statement.now = ap plain_form (sym c.in-Sequenced.is) ∙ c.form.ensures in
-    subst (λ (s : Statement). StatementLeavesHealthy g.S.Store c.args.self.now s c.answer.result c.answer.new.self) said c.answer.ensures.healthy
-
-pub returns-in-Stored-clause-healthy : goal.returns-in-Stored-clause-healthy
-returns-in-Stored-clause-healthy g c =
-    let said : statement.stored (plain_stored c.in-Stored.query) ≡ plain c.args.statement.now = ap plain_form (sym c.in-Stored.is) ∙ c.form.ensures in
-    subst (λ (s : Statement). StatementLeavesHealthy g.S.Store c.args.self.now s c.show.result c.show.new.self) said c.show.ensures.healthy
 
 -- ---- an index that is made first changes nothing
 

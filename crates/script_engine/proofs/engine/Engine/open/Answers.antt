@@ -7,6 +7,7 @@ use Rattle.history_model.specs.Histories.{History}
 use Rattle.period_core.specs.declared.version.VersionRow.{VersionRow}
 use Rattle.catalog_core.specs.declared.table.catalog.Catalog.{Catalog}
 use Rattle.version_tables.proofs.ColumnFacts.{never}
+use Rattle.version_tables.proofs.There.{not_both_ways, store_is_whole}
 use Rattle.version_tables.specs.Steps.{IsAsBefore}
 use Rattle.version_tables.specs.Healthy.{IsHealthy}
 use Rattle.version_tables.specs.Presence.{HasNoStoreTable}
@@ -94,6 +95,16 @@ returns-in-Ok-accept-clause-opened g c =
       empty = λ none.
           let made = c.in-Ok.ensures.empty none in
           (ap (λ (k : Catalog). k.tables) accepted.kept.0 ∙ made.0, accepted.kept.1 ∙ made.1);
+      unwritten = λ usable d has.
+          let old : Database = (state g.S.Store c.args.connection).now in
+          let before = accepted.usable usable in
+          elim (c.in-Ok.ensures.unchanged before) [
+            | inl none ↦ absurd (not_both_ways old.schema none (store_is_whole old.schema has.rows.schema))
+            | inr as_before ↦
+                let stored = c.in-Ok.ensures.same before Microseconds d has in
+                let forms = same_contents old opened.form Microseconds stored.counted d (subst (λ (e : Database). HasIn opened.form e stored.counted) as_before.0 stored.now) has in
+                subst (λ (store : StoreState g.row.S.Denot). IsAsBefore (state g.S.Store c.args.connection) (state g.S.Store store.connection)) (same forms.1) as_before
+          ];
       healthy_new = λ usable empty count few.
           let before = accepted.usable usable in
           accepted.healthy usable empty_contents (c.in-Ok.ensures.fresh before empty).0 count (c.in-Ok.ensures.healthy before empty count few);
@@ -104,7 +115,7 @@ returns-in-Ok-accept-clause-opened g c =
             | inr it ↦ (in_microseconds it.0 it.1, c.in-Ok.ensures.same before it.0 it.1 it.2)
           ] in
           let kept : IsHealthy left (state g.S.Store opened.store.connection).now = elim (c.in-Ok.ensures.unchanged before) [
-            | inl none ↦ absurd (some (ap (λ (k : Catalog). k.tables) accepted.kept.0 ∙ none.0))
+            | inl none ↦ absurd (some (ap (λ (k : Catalog). k.tables) accepted.kept.0 ∙ (c.in-Ok.ensures.empty none).0))
             | inr as_before ↦ subst (IsHealthy left) (sym as_before.0) sound
           ] in
           accepted.healthy usable stored.0 stored.1 left kept;
@@ -118,7 +129,7 @@ returns-in-Err-accept-clause-none g c = λ usable.
     let before = c.in-Err-accept.ensures.was_usable usable in
     let moved = c.in-Err-accept.ensures.none usable in
     elim (c.in-Ok.ensures.unchanged before) [
-      | inl new ↦ absurd (never (c.in-Err-accept.ensures.unwritten new.1).0)
+      | inl new ↦ absurd (never (c.in-Err-accept.ensures.unwritten (c.in-Ok.ensures.empty new).2).0)
       | inr same ↦ (moved.0 ∙ same.0, moved.1 ∙ same.1)
     ]
 
@@ -141,7 +152,7 @@ returns-in-Err-load_lawful-clause-bad g c = λ handed bad.
           elim (c.in-Ok.ensures.good before (λ all. five.tables_there)) [
             | inl none ↦ absurd (some (c.in-Ok.ensures.empty none).0)
             | inr it ↦ elim (c.in-Ok.ensures.unchanged before) [
-              | inl empty ↦ absurd (some empty.0)
+              | inl none ↦ absurd (some (c.in-Ok.ensures.empty none).0)
               | inr same ↦ let its = subst (λ (d : Database). HasIn c.in-Ok.found.0.form d it.2.counted) same.0 it.2.now in has_contents old five its.rows.untied its.rows.keyed
             ]
           ] in
@@ -156,7 +167,7 @@ pub returns-in-Err-load_lawful-clause-none : goal.returns-in-Err-load_lawful-cla
 returns-in-Err-load_lawful-clause-none g c = λ handed.
     let usable = subst (IsUsable g.S.Store) c.refuse.ensures.same handed in
     elim (c.in-Ok.ensures.unchanged usable) [
-      | inl empty ↦ absurd (c.in-Err-load_lawful.ensures.some (ap (λ (k : Catalog). k.tables) c.catalog.ensures ∙ empty.0))
+      | inl none ↦ absurd (c.in-Err-load_lawful.ensures.some (ap (λ (k : Catalog). k.tables) c.catalog.ensures ∙ (c.in-Ok.ensures.empty none).0))
       | inr same ↦ subst (λ (k : Held g.row.S.Denot). IsAsBefore (state g.S.Store c.args.connection) (state g.S.Store k)) (sym c.refuse.ensures.same) same
     ]
 
@@ -206,8 +217,8 @@ returns-in-Err-accept-clause-why g c = record {
       let five = other_points good in
       let has : HasIn five.form old five.contents = has_contents old five rowids.0 rowids.1 in
       let stored = c.in-Ok.ensures.same before five.form five.contents has in
-      let written = λ (two : c.in-Ok.found.0.form ≡ Microseconds). never (c.in-Err-accept.ensures.unwritten two).0 in
-      let same : now ≡ old = elim (c.in-Ok.ensures.unchanged before) [ inl empty ↦ absurd (written empty.1) | inr kept ↦ kept.0 ] in
+      let written : c.in-Ok.found.0.form ≡ Microseconds → ⊥ = λ two. never (c.in-Err-accept.ensures.unwritten two).0 in
+      let same : now ≡ old = elim (c.in-Ok.ensures.unchanged before) [ inl none ↦ absurd (written (c.in-Ok.ensures.empty none).2) | inr kept ↦ kept.0 ] in
       let forms = same_contents old c.in-Ok.found.0.form five.form stored.counted five.contents (subst (λ (e : Database). HasIn c.in-Ok.found.0.form e stored.counted) same stored.now) has in
       let seconds : five.form ≡ Seconds = seconds_else five.form (λ two. written (forms.1 ∙ two)) in
       let can = movable seconds in

@@ -21,7 +21,7 @@ pub push_read-requires : goal.push_read-requires
 push_read-requires c =
     let references : List QueryReference = c.args.references.now in
     let read : List (Option (List PeriodRow)) = c.read_each.new.lists.items in
-    let long : length read ≡ length references = c.in_ok-read_each.ensures.kept.0 ∙ (ap length c.in_ok-read.ensures ∙ length-map references (λ (reference : QueryReference). None)) in
+    let long : length read ≡ length references = c.in_ok-read_each.ensures.read.count ∙ (ap length c.in_ok-read.ensures ∙ length-map references (λ (reference : QueryReference). None)) in
     subst (AreReadBelow read) (sym long) c.in_ok-read_each.ensures.all
 
 pub returns-clause-needed : goal.returns-clause-needed
@@ -33,7 +33,7 @@ returns-clause-needed c = λ history represents known.
     let read : List (Option (List PeriodRow)) = c.read_each.new.lists.items in
     let starts_are : c.as_slice.result.now ≡ starts_from 0 references = c.as_slice.ensures.value ∙ c.in_ok-starts.ensures in
     let none : AreRead history conjuncts references c.in_ok-read.read.items = subst (AreRead history conjuncts references) (sym c.in_ok-read.ensures) (none_are_read history conjuncts references) in
-    let all : AreRead history conjuncts references read = c.in_ok-read_each.ensures.read history represents known starts_are none in
+    let all : AreRead history conjuncts references read = c.in_ok-read_each.ensures.read.needed history represents known starts_are none in
     on_ok c.push_read.result ((added : List (List PeriodRow)) × (read ≡ map Some added) × (new ≡ old ++ added)) (AddNeeded (AreNeeded history conjuncts references) old new)
     (λ (added, is, made). (added, made, all_are_read history conjuncts references added (subst (AreRead history conjuncts references) is all)))
     c.push_read.ensures

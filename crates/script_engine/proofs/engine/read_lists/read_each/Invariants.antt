@@ -1,11 +1,10 @@
 use Rattle.std.proofs.Common.{◌≡◌}
-use Rattle.script_engine.specs.engine.Needed.{AreReadBelow, KeepRead, ReadMore}
+use Rattle.script_engine.specs.engine.Needed.{AreReadBelow, ReadOn}
 use Rattle.script_engine.proofs.engine.read_lists.read_each.Given as goal
 
 abbrev pub invariant-loop-place : goal.invariant-loop-place
 invariant-loop-place l = record {
   same : l.tables ≡ l.fn.tables;
-  read : ReadMore l.fn.tables l.select l.fn.lists.items l.lists.items;
-  kept : KeepRead l.fn.lists.items l.lists.items;
+  read : ReadOn l.fn.tables l.select l.fn.lists.items l.lists.items;
   all : AreReadBelow l.lists.items l.place;
 }

@@ -46,7 +46,7 @@ pub returns-in-Ok-clause-tabled : goal.returns-in-Ok-clause-tabled
 returns-in-Ok-clause-tabled g c = λ usable form d has. absurd (not_both_ways c.args.connection.schema (c.in-Missing.ensures.missing.0 refl) (store_is_whole c.args.connection.schema has.rows.schema))
 
 pub returns-in-Ok-clause-unchanged : goal.returns-in-Ok-clause-unchanged
-returns-in-Ok-clause-unchanged g c = λ usable. inl (c.in-Ok.ensures.empty.0, refl)
+returns-in-Ok-clause-unchanged g c = λ usable. inl (c.in-Missing.ensures.missing.0 refl)
 
 pub returns-in-Ok-clause-lawful : goal.returns-in-Ok-clause-lawful
 returns-in-Ok-clause-lawful g c = subst (AreLawful []) (sym c.in-Ok.ensures.empty.0) tt

@@ -3,7 +3,6 @@ use Rattle.sql_statements.specs.Plain.{plain}
 use Rattle.script_engine.specs.script.Noted.{ending_table, touched_in}
 use Rattle.script_engine.specs.script.Script.{PieceStep}
 use Rattle.script_engine.proofs.NotedFacts.{counted_in, none_told, piece_told}
-use Rattle.script_engine.proofs.PieceSteps.{audited_over}
 use Rattle.script_engine.proofs.script.noted.NotedEntryPieceResult.executed.Goals as goal
 
 pub returns-clause-step : goal.returns-clause-step
@@ -24,6 +23,6 @@ returns-clause-step g c = λ usable history kept piece none spelled.
 
 pub returns-clause-over : goal.returns-clause-over
 returns-clause-over g c piece none spelled = (
-  audited_over g.S.Store c.args.engine.now piece (plain c.args.statement.now) c.execute_audited-kept.result c.execute_audited-kept.new.self none spelled c.execute_audited-kept.ensures.step c.execute_audited-kept.ensures.over c.execute_audited-kept.ensures.why c.execute_audited-kept.ensures.healthy,
+  inr (plain c.args.statement.now, none, spelled, c.execute_audited-kept.ensures.runs),
   none_told c.execute_audited-kept.result.result c.forgotten_since-forgotten.result _ _ c.forgotten_since-forgotten.ensures,
 )

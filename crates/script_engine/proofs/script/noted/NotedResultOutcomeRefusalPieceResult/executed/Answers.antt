@@ -3,14 +3,13 @@ use Rattle.sql_statements.specs.Plain.{plain}
 use Rattle.script_engine.specs.script.Noted.{ending_table, touched_in}
 use Rattle.script_engine.specs.script.Script.{PieceStep}
 use Rattle.script_engine.proofs.NotedFacts.{counted_in, none_told, piece_told}
-use Rattle.script_engine.proofs.PieceSteps.{stated_over}
 use Rattle.script_engine.proofs.script.noted.NotedResultOutcomeRefusalPieceResult.executed.Goals as goal
 
 pub returns-clause-step : goal.returns-clause-step
 returns-clause-step g c = λ usable history kept piece none spelled.
     let s = plain c.args.statement.now in
     let result = c.execute-kept.result in
-    let (last, step, after) = c.execute-kept.ensures.step usable history kept in
+    let (last, step, after) = c.execute-kept.ensures.runs.step usable history kept in
     let own : PieceStep history piece result last = inr (s, none, spelled, step) in
     let count = counted_in c.forgotten_since-forgotten.result (touched_in result) c.past_before-past.result.table c.past_before-past.result.ended (ending_table c.args.engine.now.catalog.tables s) c.args.engine.now.ended c.execute-kept.new.self.ended c.past_before-past.ensures.table c.past_before-past.ensures.ended c.forgotten_since-forgotten.ensures in (
       last,
@@ -24,6 +23,6 @@ returns-clause-step g c = λ usable history kept piece none spelled.
 
 pub returns-clause-over : goal.returns-clause-over
 returns-clause-over g c piece none spelled = (
-  stated_over g.S.Store c.args.engine.now piece (plain c.args.statement.now) c.execute-kept.result c.execute-kept.new.self none spelled c.execute-kept.ensures.step c.execute-kept.ensures.over c.execute-kept.ensures.why c.execute-kept.ensures.healthy,
+  inr (plain c.args.statement.now, none, spelled, c.execute-kept.ensures.runs),
   none_told c.execute-kept.result c.forgotten_since-forgotten.result _ _ c.forgotten_since-forgotten.ensures,
 )
