@@ -125,11 +125,11 @@ fn back_up_named<S: Start + Copy, C: System, W, E>(
     let connection = stores.open_store(asked.store, false, 0)?;
     match back_up_store(system, alloc, connection, asked.file) {
         Ok((copied, connection)) => {
-            end_over(stores, asked.store, report, copied, connection)?;
+            end_over(stores, report, copied, connection)?;
             Ok(0)
         }
         Err((refusal, connection)) => {
-            stores.give_up(asked.store, report, connection);
+            stores.give_up(report, connection);
             Err(RunFault::Script(refusal))
         }
     }

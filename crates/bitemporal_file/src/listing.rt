@@ -1,13 +1,13 @@
 //! The records of a store's clock and of its tables: of each how many versions it has, its columns,
 //! its periods, its key and its references.
 
-ghost use Rattle.std.specs.Prelude.{◌≡◌, ◌++◌, ◌-◌, IfOk, None, OnOk, Some, codes, flat_map, map};
-ghost use Rattle.std.specs.Prelude.{◌∷◌, [], false, slice_get, slice_index, true, ℕ};
+ghost use Rattle.std.specs.Prelude.{◌≡◌, ◌++◌, ◌-◌, IfOk, None, OnOk, Some, codes, flat_map};
+ghost use Rattle.std.specs.Prelude.{◌∷◌, [], false, slice_index, true};
 ghost use Rattle.std.specs.Fmt.{decimal};
 ghost use Rattle.std.specs.List.{zip};
 ghost use Rattle.std.specs.String.{string_bytes};
 ghost use Rattle.catalog_core.specs.table.TableWords.{table_of};
-ghost use Rattle.bitemporal_file.specs.Listing.{clock_line, column_line, column_name, is_row_end};
+ghost use Rattle.bitemporal_file.specs.Listing.{clock_line, column_line, is_row_end};
 ghost use Rattle.bitemporal_file.specs.Listing.{is_row_start, key_line, kind_text, name_at};
 ghost use Rattle.bitemporal_file.specs.Listing.{name_of_kind, next_field, pair_names, period_line};
 ghost use Rattle.bitemporal_file.specs.Listing.{period_lines, reference_line, references_lines};

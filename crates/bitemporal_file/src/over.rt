@@ -191,7 +191,6 @@ fn run_opened<S: Alter, C: System, Q: Scripts, R: Read, W: Write, E: Write>(
 /// and the store is new, no file of it stays.
 pub(crate) fn end_over<S: Start + Copy, T: Drop, W, E>(
     stores: &mut StoreFiles<'_, S>,
-    name: &str,
     report: &Reporter<W, E>,
     ended: Result<T, RunFault>,
     connection: Connection<Filed<S>>,
@@ -203,13 +202,13 @@ pub(crate) fn end_over<S: Start + Copy, T: Drop, W, E>(
     ensures same { stores.new.name ≡ stores.old.name }
 {
     match ended {
-        Ok(_) => stores.close_store(name, connection),
+        Ok(_) => stores.close_store(connection),
         Err(fault) if report.is_unused && stores.is_new() => {
-            stores.give_up(name, report, connection);
+            stores.give_up(report, connection);
             Err(fault)
         }
         Err(fault) => {
-            let _ = stores.close_store(name, connection);
+            let _ = stores.close_store(connection);
             Err(fault)
         }
     }
@@ -245,11 +244,11 @@ pub(crate) fn run_over<S: Start + Copy, C: System, Q: Scripts, R: Read, W: Write
     );
     match ran {
         Ok((ended, connection)) => {
-            end_over(stores, name, reporter, ended, connection)?;
+            end_over(stores, reporter, ended, connection)?;
             Ok(reporter.worst)
         }
         Err((refusal, connection)) => {
-            stores.give_up(name, reporter, connection);
+            stores.give_up(reporter, connection);
             Err(RunFault::Script(refusal))
         }
     }

@@ -78,11 +78,11 @@ fn inspect_asked<S: Start + Copy, W: Write, E: Write>(
     let connection = stores.open_store(name, false, asked.wait)?;
     match inspect_store(alloc, connection, inspection, &mut reporter.out) {
         Ok((told, connection)) => {
-            end_over(stores, name, reporter, told, connection)?;
+            end_over(stores, reporter, told, connection)?;
             Ok(0)
         }
         Err((refusal, connection)) => {
-            stores.give_up(name, reporter, connection);
+            stores.give_up(reporter, connection);
             Err(RunFault::Script(refusal))
         }
     }

@@ -1,6 +1,6 @@
 //! Stores that are only read: their files are, and what they hold is opened in memory.
 
-ghost use Rattle.std.specs.Prelude.{◌≡◌, ◌⊎◌, ◌≤◌, ℕ, IfErr, IfOk, IsTrue, None, false, map};
+ghost use Rattle.std.specs.Prelude.{◌≡◌, ◌⊎◌, ◌≤◌, IfErr, IfOk, IsTrue, None, false, map};
 ghost use Rattle.std.specs.String.{string_bytes};
 ghost use Rattle.sqlite.specs.Files.{image_of};
 ghost use Rattle.sqlite_disk.specs.Memory.{memory_bytes, memory_is_usable};

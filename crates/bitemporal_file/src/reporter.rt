@@ -6,7 +6,6 @@ ghost use Rattle.std.specs.Io.KnownBytes.{Appends};
 ghost use Rattle.period_core.specs.declared.refusal.Refusal.{Refusal};
 ghost use Rattle.statement_reports.specs.AuditedReport.{entry_text};
 ghost use Rattle.statement_reports.specs.Report.{text_of};
-ghost use Rattle.bitemporal_file.specs.Notes.{TellsFirst};
 ghost use Rattle.bitemporal_file.specs.Reporting.{IsReportFault, IsUnused};
 ghost use Rattle.bitemporal_file.specs.Reporting.{ReceivesResult, entry_status};
 ghost use Rattle.bitemporal_file.specs.Reporting.{refused_entry, result_status, timed_refusal};

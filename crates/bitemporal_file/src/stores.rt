@@ -178,8 +178,7 @@ pub struct FilesOf<'a, S: Start + Copy, D: Disk> {
     pub(crate) rt: &'a HostRuntime,
     start: S,
     before: Present,
-    /// The name of the store that was sought last: for the contracts alone, which say of it that it
-    /// is the one that is asked for.
+    /// The name of the store that was sought last.
     pub(crate) name: String,
     /// The state in which the files that were opened were left.
     pub(crate) end: StoreEnd<D>,
@@ -207,6 +206,11 @@ impl<'a, S: Start + Copy> FilesOf<'a, S, FileFrom<S>> {
 }
 
 impl<S: Start + Copy> FilesOf<'_, S, FileFrom<S>> {
+    // Removes the files that were not there as the store was sought.
+    fn remove_made(&self) {
+        remove_new(self.rt, self.name.as_str(), self.before);
+    }
+
     // Opens the database of that name at once, or not.
     fn open_now(&mut self, name: &str, may_make: bool) -> Result<Connection<Filed<S>>, RunFault>
         requires { self.old.end ≡ Unopened }
@@ -217,11 +221,12 @@ impl<S: Start + Copy> FilesOf<'_, S, FileFrom<S>> {
         ensures sought { IfErr result (IsSought name.now (string_bytes self.new.name)) }
     {
         self.name = copied_name(self.rt.alloc(), name)?;
-        self.before = files_there(self.rt, name);
+        let sought = self.name.as_str();
+        self.before = files_there(self.rt, sought);
         if !may_make && !self.before.store {
             return Err(RunFault::NoStore);
         }
-        match Connection::open_from(self.rt, name, false, self.start) {
+        match Connection::open_from(self.rt, sought, false, self.start) {
             Ok(connection) => {
                 self.end = StoreEnd::Opened;
                 Ok(connection)
@@ -233,7 +238,7 @@ impl<S: Start + Copy> FilesOf<'_, S, FileFrom<S>> {
                 }
                 // While the files are open and locked no other program has them.
                 if fault != RunFault::Locked {
-                    remove_new(self.rt, name, self.before);
+                    self.remove_made();
                 }
                 Err(fault)
             }
@@ -281,7 +286,6 @@ impl<S: Start + Copy> FilesOf<'_, S, FileFrom<S>> {
     /// that was not there before.
     pub(crate) fn give_up<W, E>(
         &mut self,
-        name: &str,
         report: &Reporter<W, E>,
         connection: Connection<Filed<S>>,
     )
@@ -290,16 +294,12 @@ impl<S: Start + Copy> FilesOf<'_, S, FileFrom<S>> {
         ensures same { self.new.name ≡ self.old.name }
     {
         self.end = StoreEnd::GivenUp(ManuallyDrop::new(connection));
-        remove_new(self.rt, name, self.before);
+        self.remove_made();
     }
 
     /// Closes a connection, with all that is committed in its database file. The file of its log,
     /// which then holds nothing, is removed while the files are still locked.
-    pub(crate) fn close_store(
-        &mut self,
-        name: &str,
-        connection: Connection<Filed<S>>,
-    ) -> Result<(), RunFault>
+    pub(crate) fn close_store(&mut self, connection: Connection<Filed<S>>) -> Result<(), RunFault>
         ensures kept { OnOk result (IsInFiles self.new.end connection) }
         ensures left { IsLeftAs self.new.end connection }
         ensures fault { IfErr result (IsUnclosedFor self.new.end connection) }
@@ -307,7 +307,7 @@ impl<S: Start + Copy> FilesOf<'_, S, FileFrom<S>> {
     {
         match connection.close_files() {
             Ok(files) => {
-                remove_log(self.rt, name);
+                remove_log(self.rt, self.name.as_str());
                 self.end = StoreEnd::Closed(files);
                 Ok(())
             }

@@ -1,6 +1,6 @@
 //! The system as a run sees it, apart from its files: the clock, new files, and standard error.
 
-ghost use Rattle.std.specs.Prelude.{ℕ, IfErr, List, OnOk, ⊤};
+ghost use Rattle.std.specs.Prelude.{ℕ, IfErr, List, OnOk};
 ghost use Rattle.bitemporal_file.specs.Copies.{AnyFile, IsCopyFault};
 
 use crate::new_file::make_file;
