@@ -42,7 +42,7 @@ pub record Opens {S : Type 0} (g : Ghosts S) (connection : Held S) (engine : Eng
       → IsCreatedAfter (state g connection) (state g engine.connection)
   pub empty : HasNoStoreTable (state g connection).now.schema
       → (engine.catalog.tables ≡ []) × (engine.clock ≡ first_moment)
-  -- a store of form 2 that was there is not written
+  -- a store of form 2 that was there is as it was
   pub unwritten : IsUsable g engine.connection
       → (c : Contents) → HasIn Microseconds (state g connection).now c
       → IsAsBefore (state g connection) (state g engine.connection)

@@ -84,7 +84,7 @@ impl<S: Alter> Engine<S> {
     /// that the answer agrees, or is refused for memory: either way the answer is given.
     pub fn execute_audited(&mut self, alloc: Global, statement: &Statement) -> Entry
         // Whatever history the engine represents, the call is a step of it, and the engine then
-        // represents the new one. The result alone is one of `execute`.
+        // represents the new one. Without its audit it is one of `execute`.
         ensures step { IfRepresents S.Store self.old self.new (λ history.
             AuditedStepsTo S.Store history (plain statement.now) result self.new) }
         ensures runs { RunsOver S.Store self.old (plain statement.now) result.result self.new }

@@ -102,9 +102,9 @@ pub fn sees_few(tables: &TablesInMemory, reference: &QueryReference) -> bool {
     size_of(tables, reference) <= FEW
 }
 
-/// Whether it is more work to go on looking rows up than to read a table of this size once: many
-/// were found after `seen` of the rows of a list, and as many after each of `all` make as many as
-/// the table has. Several rows of the list can have one key, so that they might even be more.
+/// Whether it is more work to go on looking rows up than to read their table, of this size, once:
+/// many were found after `seen` rows of a list, and at that rate all rows of the list would find as
+/// many as the table has, or more, since several of them can have one key.
 fn are_too_many(found: usize, seen: usize, all: usize, size: usize) -> bool {
     found > MANY && found.saturating_mul(all) >= size.saturating_mul(seen)
 }
