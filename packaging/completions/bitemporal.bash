@@ -27,7 +27,7 @@ _bitemporal() {
 
 # The first file is the store.
 _bitemporal_file() {
-    local options='--audit --stop --now --tables --verify --read-only --backup --wait' place names=0
+    local options='--audit --stop --now --clock-ahead --tables --verify --read-only --backup --wait' place names=0
     if [[ ${COMP_WORDS[COMP_CWORD-1]} == --backup ]]; then
         _bitemporal_complete '' ''
         return

@@ -182,15 +182,34 @@ def trial(name, library, folder, pool):
         f', from {first} on: {end}' for first, end in wrong[:1])
 
 
+def trial_ahead(library, folder, pool):
+    """Whether a store whose clock is ahead is refused or memory is, and it stays as it is."""
+    store, count = folder / 'ahead.store', folder / 'count'
+    run([store], f"{TABLE};AT TIMESTAMP '9998-01-01 00:00:00';".encode())
+
+    def end(name, **env):
+        shutil.copy(store, folder / name)
+        found = run([folder / name, '--now'], f'{INSERT};'.encode(), LD_PRELOAD=str(library), **env)
+        return (*found, (folder / name).read_bytes() == store.read_bytes())
+
+    plain = end('plain', COUNT_TO=str(count))
+    ends = list(pool.map(lambda first: end(first, REFUSE_AT=first),
+                         map(str, range(1, int(count.read_text()) + 1))))
+    wrong = [ended for ended in ends if ended not in (
+        plain, *((2, '', f'{fault}\n', True) for fault in (FAULT, NAMELESS)))]
+    is_well = plain[:2] + plain[3:] == (2, '', True) and 'is ahead' in plain[2] and not wrong
+    return is_well, f'a clock that is ahead: {len(ends)} allocations {plain[2]} {wrong[:1]}'
+
+
 def trials(folder, pool):
     """Counts the sessions that passed and those that failed; each failure is printed."""
     library = folder / 'refuse.so'
     subprocess.run(['cc', '-shared', '-fPIC', '-O1', '-o', library, LIBRARY, '-ldl'], check=True)
     program.build()
     passed = failed = 0
-    for name in SESSIONS:
+    for test in [*(functools.partial(trial, name) for name in SESSIONS), trial_ahead]:
         with tempfile.TemporaryDirectory(dir=MEMORY if os.access(MEMORY, os.W_OK) else None) as own:
-            is_well, line = trial(name, library, pathlib.Path(own), pool)
+            is_well, line = test(library, pathlib.Path(own), pool)
         passed, failed = passed + is_well, failed + (not is_well)
         print(f'{"ok" if is_well else "failed:"} {line}', flush=True)
     return passed, failed

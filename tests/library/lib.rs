@@ -80,8 +80,8 @@
 //! script_engine
 //! - `open`, `close`, `clock`, `catalog`, `rows` of `Engine`: `engines::reopened_store`, which has
 //!   `close_at_exit` too, `engines::store_of_another_form`, `engines::insert_with_column_list`,
-//!   `moves::starts_that_meet`, `moves::refused_as_it_is`, `moves::clocks_at_both_ends`; `at`:
-//!   `engines::clocks`
+//!   `moves::starts_that_meet`, `moves::refused_as_it_is`, `moves::clocks_at_both_ends`;
+//!   `open_by`: `moves::ahead_of_a_moment`; `at`: `engines::clocks`
 //! - `execute`: `engines::portions`, `engines::stored_versions`; `execute_audited`:
 //!   `engines::audited_statements`
 //! - `run`: `engines::runs_of_scripts`

@@ -3,7 +3,7 @@
 use crate::fixtures::{FOREVER, Recorded, are_versions, moment, statement};
 use crate::old_stores::{CLASHING, CLOCK, InSeconds, MEETING, OPEN_END, write_old_store};
 use memory_store::{MemoryStore, open_in_memory};
-use period_core::Refusal;
+use period_core::{Moment, Refusal};
 use script_engine::{Engine, Outcome};
 use sqlite::Connection;
 use std::alloc::Global;
@@ -178,6 +178,27 @@ fn refused_as_it_is(rt: HostRuntime) -> Result<(), Fail> {
         }
         assert!(rt; has_moments(&mut connection, wanted.as_slice())?);
     }
+    Ok(())
+}
+
+// A store whose clock is later than a moment is as it was; one whose clock is that moment is opened.
+#[test]
+fn ahead_of_a_moment(rt: HostRuntime) -> Result<(), Fail> {
+    let alloc = rt.alloc();
+    let clock = Moment::new(CLOCK * 1_000_000).ok_or("no moment")?;
+    let connection = old_store(alloc, CLOCK, &MEETING)?;
+    let mut connection = match Engine::open_by(alloc, connection, clock.prev()) {
+        Err((None, connection)) => connection,
+        Err((Some(refusal), _connection)) => Err(refusal)?,
+        Ok(_engine) => Err("the store was opened")?,
+    };
+    assert_eq!(rt; form_and_clock(&mut connection)?, (Form::Seconds.number(), CLOCK));
+    assert!(rt; has_moments(&mut connection, &[(1, 2), (CLOCK, OPEN_END)])?);
+    let Ok(engine) = Engine::open_by(alloc, connection, Some(clock)) else {
+        return Err("the store is refused")?;
+    };
+    assert_eq!(rt; engine.clock(), clock);
+    assert!(rt; has_moments(&mut engine.close(), &MOVED_NUMBERS)?);
     Ok(())
 }
 

@@ -13,3 +13,4 @@ mod Answered
 mod CalledFacts
 mod BlankFacts
 mod PartExamples
+mod StoreExamples

@@ -72,11 +72,8 @@ begins_blank (byte ∷ bytes) = is_ascii_whitespace byte
 
 -- the command makes a file
 abbrev pub makes_file : SessionCommand → Bool
-makes_file Tables = false
-makes_file Clock = false
-makes_file Verify = false
 makes_file Backup = true
-makes_file Help = false
+makes_file _ = false
 
 -- a command's word is followed by what it wants: a blank and a name, or only blanks
 abbrev pub fits : SessionCommand → List ℕ → Bool

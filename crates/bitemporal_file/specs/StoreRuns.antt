@@ -1,30 +1,27 @@
 -- A store that the program opens, uses as its command line asks, and closes.
-use Rattle.std.specs.Prelude.{◌≡◌, ◌⊎◌, ◌∷◌, ℕ, Bool, List, [], Option, Result, Ok, Err, false}
-use Rattle.std.specs.Prelude.{IfErr, MatchOption, OnOk, map, true}
+use Rattle.std.specs.Prelude.{◌≡◌, ◌⊎◌, ◌∷◌, ◌&&◌, ◌≤ℤ◌, ℕ, ℤ, Bool, List, [], Option, Result, Ok}
+use Rattle.std.specs.Prelude.{Err, IfErr, MatchOption, OnOk, false, map, not, true}
 use Rattle.std.specs.Io.KnownBytes.{Appends}
 use Rattle.std.specs.String.{string_bytes}
 use Rattle.sqlite.specs.Held.{Held, state}
 use Rattle.sqlite.specs.Store.{Ghosts}
 use Rattle.period_core.specs.declared.refusal.Refusal.{Refusal}
-use Rattle.period_core.specs.declared.refusal.Refusal.TheVariants.{BadStore}
 use Rattle.sql_statements.specs.Lexemes.{Lexeme}
-use Rattle.history_model.specs.Histories.{History}
+use Rattle.history_model.specs.Histories.{History, clock_of}
 use Rattle.statement_reports.specs.declared.outcome.Outcome.{Outcome}
 use Rattle.statement_reports.specs.AuditedReport.{entry_text}
 use Rattle.statement_reports.specs.Report.{text_of}
-use Rattle.version_tables.specs.Steps.{IsAsBefore}
-use Rattle.version_store.specs.StoreState.{IsOpenRefusal, IsStoreRefusal, IsUsable}
-use Rattle.version_store.specs.StoreState.{SparesOthers}
+use Rattle.version_store.specs.StoreState.{IsStoreRefusal, IsUsable, SparesOthers}
 use Rattle.script_engine.specs.engine.EngineState.{EngineState}
-use Rattle.script_engine.specs.engine.Stored.{DatabaseRepresents, EngineRepresents, IsBadStore}
-use Rattle.script_engine.specs.engine.Opens.{IsUnopenedFor, Opens}
+use Rattle.script_engine.specs.engine.Stored.{DatabaseRepresents, EngineRepresents}
+use Rattle.script_engine.specs.engine.Opens.{IsAheadOf, Opens, RefusesStore}
 use Rattle.script_engine.specs.engine.Stored.{RepresentsSome, WasUsable}
 use Rattle.script_engine.specs.script.AuditedRuns.{AuditedPieceStep}
 use Rattle.script_engine.specs.script.Noted.{NotedStep, NotedStepOver}
 use Rattle.script_engine.specs.script.Script.{KeptStepOver, PieceStep, PieceStepOver}
 use Rattle.script_engine.specs.script.Timed.{TimedPieceStep, TimedPieceStepOver}
 use Rattle.command_line.specs.declared.fault.RunFault.{RunFault}
-use Rattle.command_line.specs.declared.fault.RunFault.TheVariants.{Script, Write}
+use Rattle.command_line.specs.declared.fault.RunFault.TheVariants.{ClockAhead, Script, Write}
 use Rattle.command_line.specs.declared.file_command.Request.{Request}
 use Rattle.bitemporal_file.specs.Commands as over
 use Rattle.bitemporal_file.specs.Commands.{IsAnswered}
@@ -62,14 +59,29 @@ LeadsOver {S} g opened closed Led =
     (first : EngineState S) × (last : EngineState S) × Opens g opened first × Led first last
     × (closed ≡ last.connection)
 
--- the database is refused as a store for this cause, and stays as it was
-pub record RefusesStore {S : Type 0} (g : Ghosts S) (opened : Held S) (refusal : Refusal)
-    (left : Held S) : Type 0 where
-  pub named : IsOpenRefusal refusal
-  pub bad : IsUsable g left → refusal ≡ BadStore → IsBadStore (state g opened).now
-  -- a good store, or a new one, only for memory or a fault of the database
-  pub why : IsUnopenedFor g opened left refusal
-  pub none : IsUsable g left → IsAsBefore (state g opened) (state g left)
+-- a store is wanted in time: at the system's time, unless its clock may be ahead of that
+abbrev pub is_in_time : Request → Bool
+is_in_time asked = asked.timed && not asked.clock_ahead
+
+-- the clock of the store is ahead of a time that the system told
+abbrev pub IsAhead : {S : Type 0} → Ghosts S → (ℤ → Type 0) → (opened left : Held S) → Type 0
+IsAhead g tells opened left = (time : ℤ) × tells time × IsAheadOf g opened left time
+
+-- why a store that is wanted in time, or not, is not used, and how its connection is left: the
+-- database is refused as a store; or the clock is ahead, and it is wanted in time
+abbrev pub IsUnusedFor : {S : Type 0} → Ghosts S → (ℤ → Type 0) → Bool → Held S → RunFault → Held S
+    → Type 0
+IsUnusedFor g tells in_time opened fault left =
+    ((refusal : Refusal) × RefusesStore g opened refusal left × (fault ≡ Script refusal))
+    ⊎ ((in_time ≡ true) × (fault ≡ ClockAhead) × IsAhead g tells opened left)
+
+-- a store that is used is in time, if it is wanted so: the system told a time that is no earlier
+-- than the clock of whatever history its database stood for as it was opened
+abbrev pub IsInTime : {S : Type 0} → Ghosts S → (ℤ → Type 0) → Bool → (opened closed : Held S)
+    → Type 0
+IsInTime g tells in_time opened closed =
+    in_time ≡ true → (time : ℤ) × tells time × (IsUsable g closed → (history : History)
+    → DatabaseRepresents history (state g opened).now → clock_of history ≤ℤ time)
 
 -- a run of results of this kind: the step of a history that each is, and that of an engine,
 -- whatever its database holds; what a command does in a history, and what over an engine; what is
@@ -191,20 +203,25 @@ Uses {S} {T} g files IsUntouched Runs (Err fault) new =
     ⊎ ((ended : Result T RunFault) × WasUsable g opened left × SparesOthers g opened left
     × Runs opened ended left new × IsItsFault (files.Unclosed left) ended fault)))
 
--- the request of a command line is run over a store: by how its files are opened and left, by which
--- bytes the names of scripts have, and by what is known of the input before and after, which is
--- read only if the store is used, and whether a read of it failed
-abbrev pub RunsAsked : {S I W N : Type 0} → Ghosts S → (List ℕ → List ℕ → Type 0)
+-- the request of a command line is run over a store, or nothing is run, since its clock is ahead
+-- and it is wanted in time: by which times the system told, by how the store's files are opened and
+-- left, by which bytes the names of scripts have, and by what is known of the input before and
+-- after, which is read only if the store is used, and whether a read of it failed
+abbrev pub RunsAsked : {S I W N : Type 0} → Ghosts S → (List ℕ → List ℕ → Type 0) → (ℤ → Type 0)
     → (W → Option (List ℕ)) → (N → Option (List ℕ)) → Filing S → (List ℕ → Option (List ℕ))
     → (I → Option (List ℕ)) → (I → Bool) → Request → Reporter W N → I → Result ℕ RunFault
     → Reporter W N → I → Type 0
-RunsAsked g made contents errors files content_of remaining failed asked old unread result new
-    input =
+RunsAsked {S} g made tells contents errors files content_of remaining failed asked old unread result
+    new input =
     Uses g files (λ reporter. (reporter ≡ old) × (input ≡ unread))
-    (RunsAs g made contents errors asked.audits asked.timed
+    (λ opened ended closed last. IsInTime g tells (is_in_time asked) opened closed
+    × RunsAs g made contents errors asked.audits asked.timed
     (map content_of (map string_bytes asked.files.items)) (remaining unread) (remaining input)
-    (failed input) old)
+    (failed input) old opened ended closed last)
     result new
+    ⊎ ((is_in_time asked ≡ true) × (result ≡ Err ClockAhead) × (new ≡ old) × (input ≡ unread)
+    × (opened : Held S) × (left : Held S) × files.Opens opened × files.Leaves left
+    × IsAhead g tells opened left)
 
 -- the causes for which nothing is written of an open store
 abbrev pub IsRefusalFault : RunFault → Type 0
@@ -232,13 +249,13 @@ Inspects {S} {W} {N} g contents files inspection old result new =
 
 -- a command line is obeyed: the store is inspected as it asks, and no input is read; or else what
 -- it asks for is run
-abbrev pub DoesAsked : {S I W N : Type 0} → Ghosts S → (List ℕ → List ℕ → Type 0)
+abbrev pub DoesAsked : {S I W N : Type 0} → Ghosts S → (List ℕ → List ℕ → Type 0) → (ℤ → Type 0)
     → (W → Option (List ℕ)) → (N → Option (List ℕ)) → Filing S → (List ℕ → Option (List ℕ))
     → (I → Option (List ℕ)) → (I → Bool) → Request → Reporter W N → I → Result ℕ RunFault
     → Reporter W N → I → Type 0
-DoesAsked g made contents errors files content_of remaining failed asked old unread result new
-    input =
+DoesAsked g made tells contents errors files content_of remaining failed asked old unread result
+    new input =
     MatchOption (inspection_in asked)
-    (RunsAsked g made contents errors files content_of remaining failed asked
+    (RunsAsked g made tells contents errors files content_of remaining failed asked
     (record old { stops = asked.stops }) unread result new input)
     (λ inspection. Inspects g contents files inspection old result new × (input ≡ unread))

@@ -6,6 +6,7 @@ ghost use Rattle.sqlite_disk.specs.Memory.{memory_bytes};
 ghost use Rattle.sqlite_wal.specs.Files.{image_at};
 ghost use Rattle.version_store.specs.StoreState.{IsUsable, SparesOthers};
 ghost use Rattle.history_model.specs.Histories.{History};
+ghost use Rattle.script_engine.specs.engine.Opens.{RefusesStore};
 ghost use Rattle.script_engine.specs.engine.Stored.{EngineRepresents, WasUsable};
 ghost use Rattle.command_line.specs.declared.fault.RunFault.{RunFault as AnyFault};
 ghost use Rattle.bitemporal_file.specs.Backups.{BacksUp, IsCopied};
@@ -13,7 +14,6 @@ ghost use Rattle.bitemporal_file.specs.Copies.{IsBackupFault, IsFileOf};
 ghost use Rattle.bitemporal_file.specs.Program.{ExitsAs};
 ghost use Rattle.bitemporal_file.specs.Reporting.{IsUnused};
 ghost use Rattle.bitemporal_file.specs.StoreFiles.{filing};
-ghost use Rattle.bitemporal_file.specs.StoreRuns.{RefusesStore};
 ghost use Rattle.bitemporal_file.specs.declared.stores.StoreEnd.TheVariants.{Unopened};
 
 use crate::over::end_over;

@@ -70,13 +70,7 @@ impl SessionCommand {
     fn makes_file(self) -> bool
         ensures { result ≡ makes_file self }
     {
-        match self {
-            SessionCommand::Tables => false,
-            SessionCommand::Clock => false,
-            SessionCommand::Verify => false,
-            SessionCommand::Backup => true,
-            SessionCommand::Help => false,
-        }
+        matches!(self, SessionCommand::Backup)
     }
 }
 

@@ -6,10 +6,11 @@ ghost use Rattle.std.specs.Io.KnownBytes.{Appends};
 ghost use Rattle.sqlite.specs.Held.{state};
 ghost use Rattle.version_store.specs.StoreState.{IsStoreRefusal, IsUsable, SparesOthers};
 ghost use Rattle.history_model.specs.Histories.{History};
+ghost use Rattle.script_engine.specs.engine.Opens.{RefusesStore};
 ghost use Rattle.script_engine.specs.engine.Stored.{DatabaseRepresents, EngineRepresents};
 ghost use Rattle.script_engine.specs.engine.Stored.{WasUsable};
 ghost use Rattle.bitemporal_file.specs.Inspections.{inspection_in, report_asked};
-ghost use Rattle.bitemporal_file.specs.StoreRuns.{IsRefusalFault, LeadsDatabase, RefusesStore};
+ghost use Rattle.bitemporal_file.specs.StoreRuns.{IsRefusalFault, LeadsDatabase};
 
 use crate::tables::text_of;
 use crate::verification::verified_text;

@@ -101,7 +101,7 @@ fn run_asked<S: Start + Copy, Q: Scripts + Places + System, R: Read, W: Write, E
     requires unused { IsUnused reporter.old }
     requires unopened { stores.old.end ≡ Unopened }
     ensures done { asked.now.reads_only ≡ false
-        → DoesAsked ⟦<Filed<S> as Store>⟧ Q.made W.contents E.contents
+        → DoesAsked ⟦<Filed<S> as Store>⟧ Q.made Q.tells W.contents E.contents
         (filing (string_bytes asked.now.store) (image_at S.Start) (string_bytes stores.new.name)
         stores.new.end) (Q.content scripts.old.scripts.now)
         (λ unread. R.remaining unread.inner)
@@ -175,7 +175,7 @@ pub fn run_file_program<S: Start + Copy, Q: Scripts + Places + System, R: Read, 
         × ExitsNoting left.notes.tally ended result report.new.notes.err.has_failed
         (E.contents report.old.notes.err.inner) (E.contents report.new.notes.err.inner)
         × (asked.reads_only ≡ false
-        → DoesAsked ⟦<Filed<S> as Store>⟧ Q.made W.contents E.contents
+        → DoesAsked ⟦<Filed<S> as Store>⟧ Q.made Q.tells W.contents E.contents
         (filing (string_bytes asked.store) (image_at S.Start) (string_bytes stores.new.name)
         stores.new.end) (Q.content scripts.old.scripts.now)
         (λ unread. R.remaining unread.inner)

@@ -15,7 +15,7 @@ ghost use Rattle.bitemporal_file.specs.ReadOnly.{RunsAskedReading, RunsReading};
 ghost use Rattle.bitemporal_file.specs.ReadOnly.{read_only_refusal, reading};
 ghost use Rattle.bitemporal_file.specs.Reporting.{IsUnused};
 ghost use Rattle.bitemporal_file.specs.StoreFiles.{Finds};
-ghost use Rattle.bitemporal_file.specs.StoreRuns.{Inspects, RefusesStore, failed_in};
+ghost use Rattle.bitemporal_file.specs.StoreRuns.{Inspects, IsUnusedFor, failed_in};
 
 use crate::held_files::{HeldFiles, read_held};
 use crate::inspections::{Inspection, inspect_store, inspection_of};
@@ -167,7 +167,7 @@ fn run_reading<S: Alter, C: System, Q: Scripts, R: Read, W: Write, E: Write>(
     asked: &Request,
     input: &mut Tracked<R>,
     reporter: &mut Reporter<W, E>,
-) -> Result<(Result<bool, RunFault>, Connection<S>), (Refusal, Connection<S>)>
+) -> Result<(Result<bool, RunFault>, Connection<S>), (RunFault, Connection<S>)>
     requires settled { connection.in_transaction ≡ false }
     requires fresh { reporter.old.fault ≡ None }
     ensures ran { IfOk result (λ ended. RunsReading S.Store C.made W.contents E.contents
@@ -181,17 +181,17 @@ fn run_reading<S: Alter, C: System, Q: Scripts, R: Read, W: Write, E: Write>(
     ensures low { reporter.old.worst ≤ 3 → reporter.new.worst ≤ 3 }
     ensures told { TellsFirst E.contents reporter.old.notes reporter.new.notes }
     ensures refused { IfErr result (λ failed.
-        RefusesStore S.Store connection failed.0 failed.1
+        IsUnusedFor S.Store C.tells false connection failed.0 failed.1
         × (reporter.new ≡ reporter.old) × (input.new ≡ input.old)) }
 {
     let files = asked.files.as_slice();
     if asked.audits {
         run_store::<S, ReadOnly<Entry>, C, Q, R, W, E>(
-            alloc, connection, system, scripts, files, input, reporter,
+            alloc, connection, system, false, scripts, files, input, reporter,
         )
     } else {
         run_store::<S, ReadOnly<Result<Outcome, Refusal>>, C, Q, R, W, E>(
-            alloc, connection, system, scripts, files, input, reporter,
+            alloc, connection, system, false, scripts, files, input, reporter,
         )
     }
 }
@@ -229,9 +229,9 @@ fn read_over<Q: Scripts + Places + System, R: Read, W: Write, E: Write>(
             ended?;
             Ok(reporter.worst)
         }
-        Err((refusal, connection)) => {
+        Err((fault, connection)) => {
             let _left = ManuallyDrop::new(connection);
-            Err(RunFault::Script(refusal))
+            Err(fault)
         }
     }
 }

@@ -1,7 +1,7 @@
 -- The lines that ask for a run or a check, as clap reads them.
 use Rattle.std.proofs.Common.{◌≡◌, ◌⊎◌, ◌∙◌, [], ◌∷◌, List, Option, Some, None, codes, false, true, ap, inl, inr, refl, subst, sym}
 use Rattle.clap.specs.Lexer.{long_of, short_of}
-use Rattle.clap.specs.Words.{App, HasMatchesOf, Row, Text, fault_of, found_of, is_simple, is_simple_and_free, rows_of, subcommand_of, subcommand_rows, subcommand_rows_of}
+use Rattle.clap.specs.Words.{App, HasMatchesOf, Row, Text, found_of, is_simple, is_simple_and_free, rows_of, subcommand_of, subcommand_rows, subcommand_rows_of}
 use Rattle.clap.specs.declared.parser.matches.ArgMatches.{ArgMatches}
 use Rattle.clap.specs.declared.parser.matches.ArgMatches.TheViews.{out-SubCommand}
 use Rattle.clap.specs.declared.parser.matches.SubCommand.{SubCommand}

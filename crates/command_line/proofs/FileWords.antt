@@ -120,7 +120,7 @@ IsWalked name = (at : ℕ) (rows : List Row) (pending : Option (Text × List Tex
 
 are_walked : AllByRecursion IsWalked flag_names
 unfolding clap_on_literals
-are_walked = (λ at rows pending waiting free. elim free [ inl f ↦ rw f (refl, refl) | inr f ↦ rw f (refl, refl) ], (λ at rows pending waiting free. elim free [ inl f ↦ rw f (refl, refl) | inr f ↦ rw f (refl, refl) ], (λ at rows pending waiting free. elim free [ inl f ↦ rw f (refl, refl) | inr f ↦ rw f (refl, refl) ], (λ at rows pending waiting free. elim free [ inl f ↦ rw f (refl, refl) | inr f ↦ rw f (refl, refl) ], (λ at rows pending waiting free. elim free [ inl f ↦ rw f (refl, refl) | inr f ↦ rw f (refl, refl) ], (λ at rows pending waiting free. elim free [ inl f ↦ rw f (refl, refl) | inr f ↦ rw f (refl, refl) ], tt))))))
+are_walked = (λ at rows pending waiting free. elim free [ inl f ↦ rw f (refl, refl) | inr f ↦ rw f (refl, refl) ], (λ at rows pending waiting free. elim free [ inl f ↦ rw f (refl, refl) | inr f ↦ rw f (refl, refl) ], (λ at rows pending waiting free. elim free [ inl f ↦ rw f (refl, refl) | inr f ↦ rw f (refl, refl) ], (λ at rows pending waiting free. elim free [ inl f ↦ rw f (refl, refl) | inr f ↦ rw f (refl, refl) ], (λ at rows pending waiting free. elim free [ inl f ↦ rw f (refl, refl) | inr f ↦ rw f (refl, refl) ], (λ at rows pending waiting free. elim free [ inl f ↦ rw f (refl, refl) | inr f ↦ rw f (refl, refl) ], (λ at rows pending waiting free. elim free [ inl f ↦ rw f (refl, refl) | inr f ↦ rw f (refl, refl) ], tt)))))))
 
 flag_walked : (name : Text) → IsFlagName name → IsWalked name
 flag_walked name flag = each IsWalked flag_names are_walked name flag
@@ -210,7 +210,7 @@ abbrev IsApart : Text → Type 0
 IsApart name = (bytes_eq name (codes "STORE") ≡ false) × (bytes_eq name (codes "FILE") ≡ false) × (bytes_eq (codes "STORE") name ≡ false) × (bytes_eq (codes "FILE") name ≡ false) × (bytes_eq name (codes "wait") ≡ false)
 
 flag_apart : (name : Text) → IsFlagName name → IsApart name
-flag_apart name flag = each IsApart flag_names ((refl, refl, refl, refl, refl), ((refl, refl, refl, refl, refl), ((refl, refl, refl, refl, refl), ((refl, refl, refl, refl, refl), ((refl, refl, refl, refl, refl), ((refl, refl, refl, refl, refl), tt)))))) name flag
+flag_apart name flag = each IsApart flag_names ((refl, refl, refl, refl, refl), ((refl, refl, refl, refl, refl), ((refl, refl, refl, refl, refl), ((refl, refl, refl, refl, refl), ((refl, refl, refl, refl, refl), ((refl, refl, refl, refl, refl), ((refl, refl, refl, refl, refl), tt))))))) name flag
 
 abbrev IsRead : Text → Type 0
 IsRead name = (rows : List Row) → without name rows ≡ rows → has_row name rows ≡ false
@@ -218,7 +218,7 @@ IsRead name = (rows : List Row) → without name rows ≡ rows → has_row name 
 
 flag_reads : (name : Text) → IsFlagName name → IsRead name
 flag_reads name flag =
-    each IsRead flag_names (λ rows gone new. (rw gone refl, rw new refl), (λ rows gone new. (rw gone refl, rw new refl), (λ rows gone new. (rw gone refl, rw new refl), (λ rows gone new. (rw gone refl, rw new refl), (λ rows gone new. (rw gone refl, rw new refl), (λ rows gone new. (rw gone refl, rw new refl), tt)))))) name flag
+    each IsRead flag_names (λ rows gone new. (rw gone refl, rw new refl), (λ rows gone new. (rw gone refl, rw new refl), (λ rows gone new. (rw gone refl, rw new refl), (λ rows gone new. (rw gone refl, rw new refl), (λ rows gone new. (rw gone refl, rw new refl), (λ rows gone new. (rw gone refl, rw new refl), (λ rows gone new. (rw gone refl, rw new refl), tt))))))) name flag
 
 none_gone : (id : Text) (rows : List Row) → row_for id rows ≡ None → without id rows ≡ rows
 none_gone id rows none = no_row id (λ _. []) [] rows none ∙ append-nil rows
@@ -398,7 +398,7 @@ HasDefault name = (rows : List Row)
     → with_default rows (named name) ≡ (if has_row name rows then rows else with_values name (reading_by (named name)) DefaultValue (codes "false" ∷ []) rows)
 
 flag_default : (name : Text) → IsFlagName name → HasDefault name
-flag_default name flag = each HasDefault flag_names (λ rows. refl, (λ rows. refl, (λ rows. refl, (λ rows. refl, (λ rows. refl, (λ rows. refl, tt)))))) name flag
+flag_default name flag = each HasDefault flag_names (λ rows. refl, (λ rows. refl, (λ rows. refl, (λ rows. refl, (λ rows. refl, (λ rows. refl, (λ rows. refl, tt))))))) name flag
 
 -- the rows with the defaults of the flags
 abbrev with_defaults : List Text → List Row → List Row
@@ -468,11 +468,11 @@ rows_set (one ∷ names) name rows given flags once (inr more) there =
     among names apart name is = each (λ other. bytes_eq one other ≡ false) names apart name is
 
 are_flags : AllByRecursion IsFlagName flag_names
-are_flags = (inl refl, (inr (inl refl), (inr (inr (inl refl)), (inr (inr (inr (inl refl))), (inr (inr (inr (inr (inl refl)))), (inr (inr (inr (inr (inr (inl refl))))), tt))))))
+are_flags = (inl refl, (inr (inl refl), (inr (inr (inl refl)), (inr (inr (inr (inl refl))), (inr (inr (inr (inr (inl refl)))), (inr (inr (inr (inr (inr (inl refl))))), (inr (inr (inr (inr (inr (inr (inl refl)))))), tt)))))))
 
 once_each : IsDistinct bytes_eq flag_names
 unfolding IsDistinct
-once_each = ((refl, (refl, (refl, (refl, (refl, tt))))), ((refl, (refl, (refl, (refl, tt)))), ((refl, (refl, (refl, tt))), ((refl, (refl, tt)), ((refl, tt), (tt, tt))))))
+once_each = ((refl, (refl, (refl, (refl, (refl, (refl, tt)))))), ((refl, (refl, (refl, (refl, (refl, tt))))), ((refl, (refl, (refl, (refl, tt)))), ((refl, (refl, (refl, tt))), ((refl, (refl, tt)), ((refl, tt), (tt, tt)))))))
 
 no_flag_kept : (id : Text) (rows : List Row) → AllByRecursion (λ name. bytes_eq name id ≡ false) flag_names → row_for id (with_flags rows) ≡ row_for id rows
 no_flag_kept id rows apart = rows_kept flag_names id rows (both flag_names are_flags apart)
@@ -483,9 +483,9 @@ no_flag_kept id rows apart = rows_kept flag_names id rows (both flag_names are_f
 
 -- STORE and FILE are no flags
 name_kept : (id : Text) (rows : List Row) → (id ≡ codes "STORE") ⊎ ((id ≡ codes "FILE") ⊎ (id ≡ codes "wait")) → row_for id (with_flags rows) ≡ row_for id rows
-name_kept id rows (inl is) = rw is (no_flag_kept (codes "STORE") rows (refl, (refl, (refl, (refl, (refl, (refl, tt)))))))
-name_kept id rows (inr (inl is)) = rw is (no_flag_kept (codes "FILE") rows (refl, (refl, (refl, (refl, (refl, (refl, tt)))))))
-name_kept id rows (inr (inr is)) = rw is (no_flag_kept (codes "wait") rows (refl, (refl, (refl, (refl, (refl, (refl, tt)))))))
+name_kept id rows (inl is) = rw is (no_flag_kept (codes "STORE") rows (refl, (refl, (refl, (refl, (refl, (refl, (refl, tt))))))))
+name_kept id rows (inr (inl is)) = rw is (no_flag_kept (codes "FILE") rows (refl, (refl, (refl, (refl, (refl, (refl, (refl, tt))))))))
+name_kept id rows (inr (inr is)) = rw is (no_flag_kept (codes "wait") rows (refl, (refl, (refl, (refl, (refl, (refl, (refl, tt))))))))
 
 -- the rows at the end of the walk, for the names and the given words
 pub record Says (rows : List Row) (names words : List Text) : Type 0 where
@@ -530,7 +530,7 @@ fine_defaults [] rows fine = refl
 fine_defaults (a ∷ more) rows fine = rw (fine_default a rows fine.0, fine_defaults more (with_default rows a) fine.1) refl
 
 file_defaults : AreFineDefaults file_rules
-file_defaults = (inr refl, (inr refl, (inr refl, (inr refl, (inr refl, (inr refl, (inr refl, (inr refl, (inr refl, (inl refl, (inl refl, tt)))))))))))
+file_defaults = (inr refl, (inr refl, (inr refl, (inr refl, (inr refl, (inr refl, (inr refl, (inr refl, (inr refl, (inr refl, (inl refl, (inl refl, tt))))))))))))
 
 store_given : (store : Text) (files : List Text) (rows : List Row) → row_for (codes "STORE") rows ≡ store_row (store ∷ files) → check_fault shape rows false ≡ []
 store_given store files rows found =
@@ -641,9 +641,10 @@ as_asked words rows asked store files names says asks =
       audits = said_is _ _ _ (says.flag (codes "audit") (inl refl)) asks.audits ∙ is_among_flags (codes "--audit") words refl;
       stops = said_is _ _ _ (says.flag (codes "stop") (inr (inl refl))) asks.stops ∙ is_among_flags (codes "--stop") words refl;
       timed = said_is _ _ _ (says.flag (codes "now") (inr (inr (inl refl)))) asks.timed ∙ is_among_flags (codes "--now") words refl;
-      lists = said_is _ _ _ (says.flag (codes "tables") (inr (inr (inr (inl refl))))) asks.lists ∙ is_among_flags (codes "--tables") words refl;
-      verifies = said_is _ _ _ (says.flag (codes "verify") (inr (inr (inr (inr (inl refl)))))) asks.verifies ∙ is_among_flags (codes "--verify") words refl;
-      reads_only = said_is _ _ _ (says.flag (codes "read-only") (inr (inr (inr (inr (inr (inl refl))))))) asks.reads_only ∙ is_among_flags (codes "--read-only") words refl;
+      clock_ahead = said_is _ _ _ (says.flag (codes "clock-ahead") (inr (inr (inr (inl refl))))) asks.clock_ahead ∙ is_among_flags (codes "--clock-ahead") words refl;
+      lists = said_is _ _ _ (says.flag (codes "tables") (inr (inr (inr (inr (inl refl)))))) asks.lists ∙ is_among_flags (codes "--tables") words refl;
+      verifies = said_is _ _ _ (says.flag (codes "verify") (inr (inr (inr (inr (inr (inl refl))))))) asks.verifies ∙ is_among_flags (codes "--verify") words refl;
+      reads_only = said_is _ _ _ (says.flag (codes "read-only") (inr (inr (inr (inr (inr (inr (inl refl)))))))) asks.reads_only ∙ is_among_flags (codes "--read-only") words refl;
       waits = subst (λ (text : Option Text). WaitsFor text asked.wait) says.wait asks.waits;
     }
 
@@ -704,6 +705,9 @@ no_conflict words asked form asks (inl (lists, verifies)) =
     not_set words (codes "--tables") (codes "--verify") asked.verifies refl refl refl (form.lists (sym asks.lists ∙ lists)) asks.verifies verifies
 no_conflict words asked form asks (inr (inl (lists, runs))) = no_run words (codes "--tables") asked (refl, (refl, (refl, tt))) (form.lists (sym asks.lists ∙ lists)) asks runs
 no_conflict words asked form asks (inr (inr (inl (verifies, runs)))) = no_run words (codes "--verify") asked (refl, (refl, (refl, tt))) (form.verifies (sym asks.verifies ∙ verifies)) asks runs
-no_conflict words asked form asks (inr (inr (inr (reads_only, timed)))) =
+no_conflict words asked form asks (inr (inr (inr (inl (reads_only, timed))))) =
     let wrong : true ≡ false = sym timed ∙ asks.timed ∙ form.reads_only (sym asks.reads_only ∙ reads_only) in
+    cc
+no_conflict words asked form asks (inr (inr (inr (inr (ahead, untimed))))) =
+    let wrong : true ≡ false = sym (form.ahead (sym asks.clock_ahead ∙ ahead)) ∙ sym asks.timed ∙ untimed in
     cc

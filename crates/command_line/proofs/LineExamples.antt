@@ -16,7 +16,7 @@ use Rattle.command_line.specs.FileCommand.{IsFileCommand, IsFlag}
 use Rattle.command_line.specs.Lines.{IsReported, fault_line}
 use Rattle.command_line.specs.declared.command.CommandFault.TheVariants.{Mistake}
 use Rattle.command_line.specs.declared.command.Mode.TheVariants.{Run, RunAudited}
-use Rattle.command_line.specs.declared.fault.RunFault.TheVariants.{Script, Read, Write}
+use Rattle.command_line.specs.declared.fault.RunFault.TheVariants.{ClockAhead, Script, Read, Write}
 use Rattle.command_line.specs.declared.fault.ProgramName.TheVariants.{Bitemporal, BitemporalFile}
 
 -- ---- lines
@@ -29,6 +29,9 @@ bad_token-line = refl
 bad_store-line : fault_line BitemporalFile (Script BadStore) ≡ codes "bitemporal_file: 60 BadStore\n"
 unfolding digits
 bad_store-line = refl
+
+clock_ahead-line : fault_line BitemporalFile ClockAhead ≡ codes "bitemporal_file: the store's clock is ahead of the system's time: tools/alter STORE --clock-now --to NEW moves it back, --clock-ahead runs all the same\n"
+clock_ahead-line = refl
 
 writer-line : fault_line Bitemporal Write ≡ codes "bitemporal: cannot write the report\n"
 writer-line = refl
@@ -78,6 +81,7 @@ flag_before_names = record {
   lists = λ tables. cc;
   verifies = λ verify. cc;
   reads_only = λ reads. cc;
+  ahead = λ ahead. cc;
 }
 
 -- --tables goes with no script
@@ -90,6 +94,10 @@ verify_beside_a_script form = let one = (form.verifies refl).1 in omega (arith, 
 
 now_beside_read_only : IsFileCommand (codes "pay.store" ∷ codes "--now" ∷ codes "--read-only" ∷ []) → ⊥
 now_beside_read_only form = let wrong : true ≡ false = form.reads_only refl in cc
+
+-- --clock-ahead goes with --now alone
+clock_ahead_without_now : IsFileCommand (codes "pay.store" ∷ codes "--clock-ahead" ∷ []) → ⊥
+clock_ahead_without_now form = let wrong : false ≡ true = form.ahead refl in cc
 
 -- a mistake is reported for no request
 no_mistake : (text : String Global) → IsReportedFor (λ kind. kind ≡ DisplayHelp) (Mistake text) → ⊥

@@ -5,7 +5,7 @@ use Rattle.command_line.specs.Lines.{IsReported, MayBeReportedAs, fault_line, wi
 use Rattle.command_line.specs.declared.fault.ProgramName.{ProgramName}
 use Rattle.command_line.specs.declared.fault.ProgramName.TheVariants.{Bitemporal, BitemporalFile}
 use Rattle.command_line.specs.declared.fault.RunFault.{RunFault}
-use Rattle.command_line.specs.declared.fault.RunFault.TheVariants.{Script, Memory, Words, Read, Write, NoStore, Locked, Unfinished, CopyThere, CopyFailed}
+use Rattle.command_line.specs.declared.fault.RunFault.TheVariants.{Script, Memory}
 
 pub memory_is : codes "bitemporal: 61 Memory\n" ≡ fault_line Bitemporal Memory
 unfolding digits
@@ -22,15 +22,7 @@ joined a b c d e f g h = simp append_assoc
 -- the line of a fault without memory may report the fault
 pub may_without : (fault : RunFault) → MayBeReportedAs fault (without_memory fault)
 may_without (Script refusal) = inr (tt, refl)
-may_without Memory = inl refl
-may_without Words = inl refl
-may_without Read = inl refl
-may_without Write = inl refl
-may_without NoStore = inl refl
-may_without Locked = inl refl
-may_without Unfinished = inl refl
-may_without CopyThere = inl refl
-may_without CopyFailed = inl refl
+may_without _ = inl refl
 
 -- a fault whose line is the bytes written
 pub line_of_fault : (program : ProgramName) (fault told : RunFault) (has_failed : Bool) (old new : Option (List ℕ)) (line : List ℕ) → line ≡ fault_line program told → MayBeReportedAs fault told

@@ -40,18 +40,18 @@ wait_word = record (new_rule (codes "wait")) {
 -- the names of the flags
 abbrev pub flag_names : List Text
 flag_names =
-    codes "audit" ∷ codes "stop" ∷ codes "now" ∷ codes "tables" ∷ codes "verify"
-    ∷ codes "read-only" ∷ []
+    codes "audit" ∷ codes "stop" ∷ codes "now" ∷ codes "clock-ahead" ∷ codes "tables"
+    ∷ codes "verify" ∷ codes "read-only" ∷ []
 
 -- bitemporal_file --version, and bitemporal_file STORE [FILE ..] [--wait SECONDS] with any of the
 -- flags
 abbrev pub bitemporal_file : App
 bitemporal_file =
     with_rule (with_rule (with_rule (with_rule (with_rule (with_rule (with_rule (with_rule
-    (with_rule (versioned (new_app (codes "bitemporal_file"))) store_word) scripts_word)
+    (with_rule (with_rule (versioned (new_app (codes "bitemporal_file"))) store_word) scripts_word)
     (flag_word (codes "audit"))) (flag_word (codes "stop"))) (flag_word (codes "now")))
-    (flag_word (codes "tables"))) (flag_word (codes "verify"))) (flag_word (codes "read-only")))
-    wait_word
+    (flag_word (codes "clock-ahead"))) (flag_word (codes "tables"))) (flag_word (codes "verify")))
+    (flag_word (codes "read-only"))) wait_word
 
 -- the number that was read, or 0
 abbrev pub ok_or_zero : Result ℕ (Unit {0}) → ℕ
@@ -76,6 +76,7 @@ pub record Asks (rows : List Row) (asked : Request) : Type 0 where
   pub audits : IsTrue asked.audits ↔ IsSet (codes "audit") rows
   pub stops : IsTrue asked.stops ↔ IsSet (codes "stop") rows
   pub timed : IsTrue asked.timed ↔ IsSet (codes "now") rows
+  pub clock_ahead : IsTrue asked.clock_ahead ↔ IsSet (codes "clock-ahead") rows
   pub lists : IsTrue asked.lists ↔ IsSet (codes "tables") rows
   pub verifies : IsTrue asked.verifies ↔ IsSet (codes "verify") rows
   pub reads_only : IsTrue asked.reads_only ↔ IsSet (codes "read-only") rows
@@ -87,12 +88,13 @@ NeedsRun asked = (asked.audits ≡ true) ⊎ (asked.stops ≡ true) ⊎ (asked.t
     ⊎ (0 < length asked.files.items)
 
 -- two arguments exclude each other: --tables and --verify, one of the two and what calls for a
--- run, or --read-only and --now
+-- run, or --read-only and --now; or --clock-ahead lacks --now
 abbrev pub HasConflict : Request → Type 0
 HasConflict asked = ((asked.lists ≡ true) × (asked.verifies ≡ true))
     ⊎ ((asked.lists ≡ true) × NeedsRun asked)
     ⊎ ((asked.verifies ≡ true) × NeedsRun asked)
     ⊎ ((asked.reads_only ≡ true) × (asked.timed ≡ true))
+    ⊎ ((asked.clock_ahead ≡ true) × (asked.timed ≡ false))
 
 -- ---- the words
 
@@ -128,7 +130,8 @@ ExcludesOthers flag words =
     × (length (names_in words) ≡ 1)
 
 -- the words after the program's name are in the usual form: STORE and any FILEs, and flags, each
--- once, in any place; --tables and --verify each are alone, and --read-only without --now
+-- once, in any place; --tables and --verify each are alone, --read-only is without --now, and
+-- --clock-ahead with it
 pub record IsFileCommand (words : List Text) : Type 0 where
   pub store : 0 < length (names_in words)
   pub flags : All IsFlag (flags_in words)
@@ -137,6 +140,8 @@ pub record IsFileCommand (words : List Text) : Type 0 where
   pub verifies : is_among (codes "--verify") words ≡ true → ExcludesOthers (codes "--verify") words
   pub reads_only : is_among (codes "--read-only") words ≡ true
       → is_among (codes "--now") words ≡ false
+  pub ahead : is_among (codes "--clock-ahead") words ≡ true
+      → is_among (codes "--now") words ≡ true
 
 -- the words ask for this
 pub record AskFor (words : List Text) (asked : Request) : Type 0 where
@@ -144,6 +149,7 @@ pub record AskFor (words : List Text) (asked : Request) : Type 0 where
   pub audits : asked.audits ≡ is_among (codes "--audit") words
   pub stops : asked.stops ≡ is_among (codes "--stop") words
   pub timed : asked.timed ≡ is_among (codes "--now") words
+  pub clock_ahead : asked.clock_ahead ≡ is_among (codes "--clock-ahead") words
   pub lists : asked.lists ≡ is_among (codes "--tables") words
   pub verifies : asked.verifies ≡ is_among (codes "--verify") words
   pub reads_only : asked.reads_only ≡ is_among (codes "--read-only") words
@@ -151,8 +157,8 @@ pub record AskFor (words : List Text) (asked : Request) : Type 0 where
 
 -- ---- why words are no command
 
--- clap finds this kind of fault in the words, or else finds none, and two arguments of what they
--- ask for exclude each other
+-- clap finds this kind of fault in the words, or else finds none, and what they ask for has
+-- arguments in conflict
 abbrev pub IsFileFault : List Text → ErrorKind → Type 0
 IsFileFault words kind = IsAmong kind (fault_of bitemporal_file words)
     ⊎ ((kind ≡ ArgumentConflict)

@@ -13,8 +13,8 @@ use Rattle.statement_reports.specs.declared.fault.ReportFault.TheVariants as rep
 use Rattle.command_line.specs.declared.fault.RunFault.{RunFault}
 use Rattle.command_line.specs.declared.fault.RunFault.TheVariants.{Script, Memory, Words, Read}
 use Rattle.command_line.specs.declared.fault.RunFault.TheVariants.{Write, NoStore, Locked}
-use Rattle.command_line.specs.declared.fault.RunFault.TheVariants.{Unfinished, CopyThere}
-use Rattle.command_line.specs.declared.fault.RunFault.TheVariants.{CopyFailed}
+use Rattle.command_line.specs.declared.fault.RunFault.TheVariants.{ClockAhead, Unfinished}
+use Rattle.command_line.specs.declared.fault.RunFault.TheVariants.{CopyFailed, CopyThere}
 use Rattle.command_line.specs.declared.fault.ProgramName.{ProgramName}
 use Rattle.command_line.specs.declared.fault.ProgramName.TheVariants.{Bitemporal, BitemporalFile}
 
@@ -68,6 +68,10 @@ fault_line program Write = message_line program (codes "cannot write the report"
 fault_line program NoStore = message_line program (codes "cannot open the store")
 fault_line program Locked =
     message_line program (codes "another program has the store open, perhaps an idle sqlite3")
+fault_line program ClockAhead =
+    message_line program
+    (codes "the store's clock is ahead of the system's time: tools/alter STORE --clock-now "
+    ++ codes "--to NEW moves it back, --clock-ahead runs all the same")
 fault_line program Unfinished =
     message_line program (codes "the input ends within a statement, which was not run")
 fault_line program CopyThere = message_line program (codes "the file of the copy is there already")

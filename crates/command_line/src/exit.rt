@@ -70,9 +70,9 @@ fn report_fault<W: Write>(
     match fault {
         RunFault::Script(refusal) => match line_of_refusal(alloc, program, &refusal) {
             Ok(line) => write_text(err, line.as_bytes()),
-            Err(_) => write_text(err, ready_line(program, RunFault::Memory)),
+            Err(_) => write_text(err, ready_line(program, RunFault::Memory).as_bytes()),
         },
-        other => write_text(err, ready_line(program, other)),
+        other => write_text(err, ready_line(program, other).as_bytes()),
     }
 }
 

@@ -49,6 +49,8 @@ pub enum RunFault {
     NoStore,
     /// Another program has the store open.
     Locked,
+    /// The clock of the store is later than the system's time.
+    ClockAhead,
     /// The input ends within a statement, which was not run.
     Unfinished,
     /// The file of a copy, or the part of one that was not ended, exists already.
@@ -130,43 +132,42 @@ fn offset_line(
     format!(in alloc; "{program}: {code} {name} {offset}\n")
 }
 
+// The line of a fault of a program.
+macro_rules! line_of_fault {
+    ($fault:expr, $program:literal) => {
+        match $fault {
+            RunFault::Script(_) => concat!($program, ": 61 Memory\n"),
+            RunFault::Memory => concat!($program, ": 61 Memory\n"),
+            RunFault::Words => concat!($program, ": a word of the command line is not UTF-8\n"),
+            RunFault::Read => concat!($program, ": cannot read the script\n"),
+            RunFault::Write => concat!($program, ": cannot write the report\n"),
+            RunFault::NoStore => concat!($program, ": cannot open the store\n"),
+            RunFault::Locked => concat!(
+                $program,
+                ": another program has the store open, perhaps an idle sqlite3\n"
+            ),
+            RunFault::ClockAhead => concat!(
+                $program,
+                ": the store's clock is ahead of the system's time: tools/alter STORE --clock-now ",
+                "--to NEW moves it back, --clock-ahead runs all the same\n"
+            ),
+            RunFault::Unfinished => concat!(
+                $program,
+                ": the input ends within a statement, which was not run\n"
+            ),
+            RunFault::CopyThere => concat!($program, ": the file of the copy is there already\n"),
+            RunFault::CopyFailed => concat!($program, ": cannot write the copy\n"),
+        }
+    };
+}
+
 /// The line of a fault, which takes no memory: in place of a refusal's line, the line of out of
 /// memory.
-pub(crate) fn ready_line(program: ProgramName, fault: RunFault) -> &'static [u8]
+pub(crate) fn ready_line(program: ProgramName, fault: RunFault) -> &'static str
     ensures { result.now ≡ fault_line program (without_memory fault) }
 {
     match program {
-        ProgramName::Bitemporal => match fault {
-            RunFault::Script(_) => b"bitemporal: 61 Memory\n",
-            RunFault::Memory => b"bitemporal: 61 Memory\n",
-            RunFault::Words => b"bitemporal: a word of the command line is not UTF-8\n",
-            RunFault::Read => b"bitemporal: cannot read the script\n",
-            RunFault::Write => b"bitemporal: cannot write the report\n",
-            RunFault::NoStore => b"bitemporal: cannot open the store\n",
-            RunFault::Locked => {
-                b"bitemporal: another program has the store open, perhaps an idle sqlite3\n"
-            }
-            RunFault::Unfinished => {
-                b"bitemporal: the input ends within a statement, which was not run\n"
-            }
-            RunFault::CopyThere => b"bitemporal: the file of the copy is there already\n",
-            RunFault::CopyFailed => b"bitemporal: cannot write the copy\n",
-        },
-        ProgramName::BitemporalFile => match fault {
-            RunFault::Script(_) => b"bitemporal_file: 61 Memory\n",
-            RunFault::Memory => b"bitemporal_file: 61 Memory\n",
-            RunFault::Words => b"bitemporal_file: a word of the command line is not UTF-8\n",
-            RunFault::Read => b"bitemporal_file: cannot read the script\n",
-            RunFault::Write => b"bitemporal_file: cannot write the report\n",
-            RunFault::NoStore => b"bitemporal_file: cannot open the store\n",
-            RunFault::Locked => {
-                b"bitemporal_file: another program has the store open, perhaps an idle sqlite3\n"
-            }
-            RunFault::Unfinished => {
-                b"bitemporal_file: the input ends within a statement, which was not run\n"
-            }
-            RunFault::CopyThere => b"bitemporal_file: the file of the copy is there already\n",
-            RunFault::CopyFailed => b"bitemporal_file: cannot write the copy\n",
-        },
+        ProgramName::Bitemporal => line_of_fault!(fault, "bitemporal"),
+        ProgramName::BitemporalFile => line_of_fault!(fault, "bitemporal_file"),
     }
 }

@@ -13,8 +13,8 @@ ghost use Rattle.command_line.specs.FileCommand.{flag_word, scripts_word, store_
 
 use crate::command::{CommandFault, is_set, value_of};
 use crate::file_help::{
-    ABOUT, AFTER_HELP, FILE_HELP, NOW_HELP, READ_ONLY_HELP, STOP_HELP, STORE_HELP, TABLES_HELP,
-    VERIFY_HELP, WAIT_HELP,
+    ABOUT, AFTER_HELP, CLOCK_AHEAD_HELP, FILE_HELP, NOW_HELP, READ_ONLY_HELP, STOP_HELP,
+    STORE_HELP, TABLES_HELP, VERIFY_HELP, WAIT_HELP,
 };
 use crate::help::{AUDIT_HELP, VERSION};
 use clap::builder::ValueParser;
@@ -39,6 +39,8 @@ pub struct Request {
     pub stops: bool,
     /// The system's time moves the store's clock.
     pub timed: bool,
+    /// The clock may be ahead of the system's time then.
+    pub clock_ahead: bool,
     /// The tables are listed, and nothing is run.
     pub lists: bool,
     /// The versions are counted and summed, and nothing is run.
@@ -103,7 +105,8 @@ fn file_command<'a>(alloc: Global) -> Result<Command<'a>, AllocError>
     let audited = filed.arg(flag(alloc, "audit", AUDIT_HELP))?;
     let stopping = audited.arg(flag(alloc, "stop", STOP_HELP))?;
     let timed = stopping.arg(flag(alloc, "now", NOW_HELP))?;
-    let listing = timed.arg(flag(alloc, "tables", TABLES_HELP))?;
+    let ahead = timed.arg(flag(alloc, "clock-ahead", CLOCK_AHEAD_HELP))?;
+    let listing = ahead.arg(flag(alloc, "tables", TABLES_HELP))?;
     let verifying = listing.arg(flag(alloc, "verify", VERIFY_HELP))?;
     let reading = verifying.arg(flag(alloc, "read-only", READ_ONLY_HELP))?;
     let whole = reading.arg(wait_argument(alloc))?;
@@ -169,6 +172,7 @@ fn asked_of(alloc: Global, matches: &ArgMatches<'_>) -> Result<Request, AllocErr
         audits: is_set(matches, "audit"),
         stops: is_set(matches, "stop"),
         timed: is_set(matches, "now"),
+        clock_ahead: is_set(matches, "clock-ahead"),
         lists: is_set(matches, "tables"),
         verifies: is_set(matches, "verify"),
         reads_only: is_set(matches, "read-only"),
@@ -176,34 +180,37 @@ fn asked_of(alloc: Global, matches: &ArgMatches<'_>) -> Result<Request, AllocErr
     })
 }
 
-// The argument that calls for a run, as the usage names it, if there is one.
+// With which argument that calls for a run, as the usage names it, if there is one.
 fn running_argument(asked: &Request) -> Option<&'static str>
     ensures none { IsNone result → ¬ NeedsRun asked.now }
     ensures some { IsSome result → NeedsRun asked.now }
 {
     if asked.audits {
-        Some("--audit")
+        Some("with '--audit'")
     } else if asked.stops {
-        Some("--stop")
+        Some("with '--stop'")
     } else if asked.timed {
-        Some("--now")
+        Some("with '--now'")
     } else if !asked.files.is_empty() {
-        Some("[FILE]...")
+        Some("with '[FILE]...'")
     } else {
         None
     }
 }
 
-// The first of two arguments that exclude each other, and the second, as the usage names them.
+// An argument, and with or without which other it cannot be used, as the usage names them.
 fn conflict_in(asked: &Request) -> Option<(&'static str, &'static str)>
     ensures none { IsNone result → ¬ HasConflict asked.now }
     ensures some { IsSome result → HasConflict asked.now }
 {
     if asked.lists && asked.verifies {
-        return Some(("--tables", "--verify"));
+        return Some(("--tables", "with '--verify'"));
     }
     if asked.reads_only && asked.timed {
-        return Some(("--read-only", "--now"));
+        return Some(("--read-only", "with '--now'"));
+    }
+    if asked.clock_ahead && !asked.timed {
+        return Some(("--clock-ahead", "without '--now'"));
     }
     let Some(other) = running_argument(asked) else {
         return None;
@@ -217,16 +224,16 @@ fn conflict_in(asked: &Request) -> Option<(&'static str, &'static str)>
     }
 }
 
-// The mistake of an argument that another excludes.
+// The mistake of an argument that cannot be used so.
 fn mistake_beside(
     alloc: Global,
     command: &mut Command<'_>,
     argument: &str,
-    other: &str,
+    beside: &str,
 ) -> CommandFault
     ensures { IsReportedFor (λ kind. kind ≡ ErrorKind.ArgumentConflict) result }
 {
-    match format!(in alloc; "the argument '{argument}' cannot be used with '{other}'") {
+    match format!(in alloc; "the argument '{argument}' cannot be used {beside}") {
         Ok(message) => CommandFault::of_mistake(
             alloc,
             command,
@@ -263,6 +270,6 @@ pub fn parse_request<S: AsStr>(alloc: Global, words: &[S]) -> Result<Request, Co
     };
     match conflict_in(&asked) {
         None => Ok(asked),
-        Some((argument, other)) => Err(mistake_beside(alloc, &mut command, argument, other)),
+        Some((argument, beside)) => Err(mistake_beside(alloc, &mut command, argument, beside)),
     }
 }

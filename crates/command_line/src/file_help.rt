@@ -18,6 +18,10 @@ pub const STOP_HELP: &str = "Runs nothing after the first statement that is refu
 pub const NOW_HELP: &str =
     "Moves the clock to the system's time before each statement but a query, if that is later";
 
+/// The help of `--clock-ahead`.
+pub const CLOCK_AHEAD_HELP: &str =
+    "Runs with --now also if the store's clock is ahead of the system's time";
+
 /// The help of `--tables`.
 pub const TABLES_HELP: &str =
     "Lists the clock and the tables, with how many versions each has, and runs nothing";
@@ -53,8 +57,9 @@ together. Remove STORE-wal before a copy is put in the place of STORE.
 Two stores with equal histories have one sum, also where one is a copy or a restored dump. A sum is
 no defence against forgery.
 
-With --now an AT that is later than the system's time is refused with 13, as FOREVER is. Without it
-AT alone moves the clock, and changes are recorded at the moment of the last one.
+With --now an AT that is later than the system's time is refused with 13, as FOREVER is, and a store
+whose clock is ahead of that time is not opened, unless --clock-ahead is given. Without --now AT
+alone moves the clock, and changes are recorded at the moment of the last one.
 
 Exit status:
   0  every statement was accepted

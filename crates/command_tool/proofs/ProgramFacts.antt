@@ -5,7 +5,7 @@ use Rattle.command_line.specs.Lines.{IsReported, MayBeReportedAs, fault_line}
 use Rattle.command_tool.specs.Program.{EndsWell, MayEndIn, MayEndSilently, ProgramRun}
 use Rattle.command_line.specs.declared.command.Mode.{Mode}
 use Rattle.command_line.specs.declared.fault.RunFault.{RunFault}
-use Rattle.command_line.specs.declared.fault.RunFault.TheVariants.{Script, Memory, Words, Read, Write, NoStore, Locked, Unfinished, CopyThere, CopyFailed}
+use Rattle.command_line.specs.declared.fault.RunFault.TheVariants.{Script, Memory, Read}
 use Rattle.command_line.specs.declared.fault.ProgramName.TheVariants.{Bitemporal}
 
 pub keeps_itself : (known : Option (List ℕ)) → Keeps known known
@@ -37,14 +37,8 @@ ends_silently r fault status silent kept told =
 silent_if_failed : (mode : Mode) (script : Option (List ℕ)) (read_failed failed : Bool) (fault : RunFault) → (read_failed ≡ true → failed ≡ true) → MayEndSilently mode script read_failed fault → MayEndSilently mode script failed fault
 silent_if_failed mode script read_failed failed (Script refusal) then may = may
 silent_if_failed mode script read_failed failed Memory then may = may
-silent_if_failed mode script read_failed failed Words then may = may
 silent_if_failed mode script read_failed failed Read then may = then may
-silent_if_failed mode script read_failed failed Write then may = may
-silent_if_failed mode script read_failed failed NoStore then may = may
-silent_if_failed mode script read_failed failed Locked then may = may
-silent_if_failed mode script read_failed failed Unfinished then may = may
-silent_if_failed mode script read_failed failed CopyThere then may = may
-silent_if_failed mode script read_failed failed CopyFailed then may = may
+silent_if_failed mode script read_failed failed _ then may = may
 
 -- a run that ends well does so also with a reader that has failed
 ends_if_failed : (r : ProgramRun) (failed : Bool) → (r.read_failed ≡ true → failed ≡ true) → EndsWell r → EndsWell (record r { read_failed = failed })

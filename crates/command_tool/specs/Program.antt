@@ -19,10 +19,7 @@ use Rattle.command_line.specs.Reading.{read_of}
 use Rattle.command_line.specs.declared.command.Mode.{Mode}
 use Rattle.command_line.specs.declared.command.Mode.TheVariants.{Run, RunAudited, Check}
 use Rattle.command_line.specs.declared.fault.RunFault.{RunFault}
-use Rattle.command_line.specs.declared.fault.RunFault.TheVariants.{Script, Memory, Words, Read}
-use Rattle.command_line.specs.declared.fault.RunFault.TheVariants.{Write, NoStore, Locked}
-use Rattle.command_line.specs.declared.fault.RunFault.TheVariants.{Unfinished, CopyThere}
-use Rattle.command_line.specs.declared.fault.RunFault.TheVariants.{CopyFailed}
+use Rattle.command_line.specs.declared.fault.RunFault.TheVariants.{Script, Memory, Read, Write}
 use Rattle.command_line.specs.declared.fault.ProgramName.TheVariants.{Bitemporal}
 
 -- the most bytes that are read: one more than a script may have
@@ -74,14 +71,8 @@ abbrev pub MayFailSilently :
 MayFailSilently MayRefuse input read_failed (Script refusal) =
     IfSome input (λ all. MayRefuse (read_of most_bytes all) refusal)
 MayFailSilently MayRefuse input read_failed Memory = ⊤
-MayFailSilently MayRefuse input read_failed Words = ⊥
 MayFailSilently MayRefuse input read_failed Read = read_failed ≡ true
-MayFailSilently MayRefuse input read_failed Write = ⊥
-MayFailSilently MayRefuse input read_failed NoStore = ⊥
-MayFailSilently MayRefuse input read_failed Locked = ⊥
-MayFailSilently MayRefuse input read_failed Unfinished = ⊥
-MayFailSilently MayRefuse input read_failed CopyThere = ⊥
-MayFailSilently MayRefuse input read_failed CopyFailed = ⊥
+MayFailSilently MayRefuse input read_failed _ = ⊥
 
 -- the refusals of a whole script: only a run opens a store, and that is a new one
 abbrev pub MayRefuseIn : Mode → List ℕ → Refusal → Type 0

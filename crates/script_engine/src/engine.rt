@@ -1,16 +1,15 @@
 //! The engine: the statements that it runs over a store.
 
 ghost use Rattle.std.specs.Prelude.{◌≡◌, ◌<ℤ◌, ◌≤ℤ◌, false, IsPermutation};
-ghost use Rattle.std.specs.Prelude.{IfErr, IfOk, OnErr, OnOk, Some, length, ℤ};
-ghost use Rattle.period_core.specs.Moments.{forever};
-ghost use Rattle.period_core.specs.declared.refusal.Refusal.TheVariants.{BadStore};
+ghost use Rattle.std.specs.Prelude.{IfErr, IfOk, IfSome, MatchOption, OnErr, OnOk, Some, length};
+ghost use Rattle.std.specs.Prelude.{true, ℤ};
+ghost use Rattle.period_core.specs.Moments.{first_moment, forever};
 ghost use Rattle.sqlite.specs.Held.{state};
-ghost use Rattle.version_tables.specs.Steps.{IsAsBefore};
 ghost use Rattle.version_store.specs.Contents.{AreRowsOf, Contents};
 ghost use Rattle.version_store.specs.GoodStore.{AreGood, IsGoodStore};
-ghost use Rattle.version_store.specs.StoreState.{IsFailure, IsOpenRefusal, IsStoreRefusal};
-ghost use Rattle.version_store.specs.StoreState.{IsUsable, LeavesHealthy, SparesOthers};
-ghost use Rattle.version_store.specs.StoreState.{StaysOnErr, StoreRepresents};
+ghost use Rattle.version_store.specs.StoreState.{IsFailure, IsStoreRefusal, IsUsable};
+ghost use Rattle.version_store.specs.StoreState.{LeavesHealthy, SparesOthers, StaysOnErr};
+ghost use Rattle.version_store.specs.StoreState.{StoreRepresents};
 ghost use Rattle.history_model.specs.Histories.{Advanced, History, state_at, with_event};
 ghost use Rattle.history_model.specs.Versions.{values_at};
 ghost use Rattle.script_engine.specs.engine.Ended.{ended_in};
@@ -19,13 +18,13 @@ ghost use Rattle.script_engine.specs.engine.Faults.{AreConstrained};
 ghost use Rattle.script_engine.specs.engine.Healthy.{FailsOnFault, StatementFailsOnFault};
 ghost use Rattle.script_engine.specs.engine.Healthy.{StatementLeavesHealthy};
 ghost use Rattle.script_engine.specs.engine.InMemory.{IsSameInMemory};
-ghost use Rattle.script_engine.specs.engine.Opens.{IsUnopenedFor, Opens};
+ghost use Rattle.script_engine.specs.engine.Opens.{IsAheadOf, Opens, RefusesStore};
 ghost use Rattle.script_engine.specs.engine.Over.{RunsOver, StepOver};
 ghost use Rattle.script_engine.specs.engine.Planned.{IsResolved};
 ghost use Rattle.script_engine.specs.engine.Runs.{IsQuery, MayRefuseMoment, MayRefuseQuery};
 ghost use Rattle.script_engine.specs.engine.Runs.{StepsTo};
-ghost use Rattle.script_engine.specs.engine.Stored.{EngineRepresents, IfRepresents, IsBadStore};
-ghost use Rattle.script_engine.specs.engine.Stored.{KeepsOnErr, WasUsable};
+ghost use Rattle.script_engine.specs.engine.Stored.{EngineRepresents, IfRepresents, KeepsOnErr};
+ghost use Rattle.script_engine.specs.engine.Stored.{WasUsable};
 ghost use Rattle.statement_reports.specs.declared.outcome.Outcome.TheVariants.{Done};
 ghost use Rattle.statement_reports.specs.declared.outcome.Word.TheVariants as word;
 ghost use Rattle.sql_statements.specs.Plain.{plain, plain_query, plain_stored};
@@ -99,6 +98,18 @@ impl<S: Alter> Model for Engine<S> {
         × AllEndedBy e.store.clock e.tables.ended };
 }
 
+/// Whether a clock is later than a moment, if there is one.
+fn is_after(clock: Moment, latest: Option<Moment>) -> bool
+    ensures later { result ≡ true → MatchOption latest ⊥ (λ moment. moment <ℤ clock) }
+    ensures moved { result ≡ true → first_moment <ℤ clock }
+    ensures up_to { result ≡ false → IfSome latest (λ moment. clock ≤ℤ moment) }
+{
+    match latest {
+        Some(moment) => moment < clock,
+        None => false,
+    }
+}
+
 /// The connection of a store: a good store's is good.
 fn connection_of<S: Alter>(store: VersionStore<S>) -> Connection<S>
     ensures same { result ≡ store.connection }
@@ -131,31 +142,49 @@ impl<S: Alter> Engine<S> {
         requires { connection.in_transaction ≡ false }
 
         ensures opened { IfOk result (Opens S.Store connection) }
-
-        ensures bad { IfErr result (λ failed. IsUsable S.Store failed.1 → failed.0 ≡ BadStore
-            → IsBadStore (state S.Store connection).now) }
-
-        // A good store, or a new one, is refused only for memory or a fault of the database.
-        ensures why { IfErr result (λ failed.
-            IsUnopenedFor S.Store connection failed.1 failed.0) }
-
-        ensures none { IfErr result (λ failed. IsUsable S.Store failed.1
-            → IsAsBefore (state S.Store connection) (state S.Store failed.1)) }
+        ensures refused { IfErr result (λ failed.
+            RefusesStore S.Store connection failed.0 failed.1) }
         ensures settled { IfErr result (λ failed. failed.1.in_transaction ≡ false) }
-        ensures named { IfErr result (λ failed. IsOpenRefusal failed.0) }
+    {
+        match Engine::open_by(alloc, connection, None) {
+            Ok(engine) => Ok(engine),
+            Err((cause, connection)) => match cause {
+                Some(refusal) => Err((refusal, connection)),
+                None => unreachable!(),
+            },
+        }
+    }
+
+    /// Opens a store as `open` does, unless its clock is later than a moment, if there is one. An
+    /// `Err` without a refusal says that it is: it changes nothing, and a store of form 1 stays so.
+    pub fn open_by(
+        alloc: Global,
+        connection: Connection<S>,
+        latest: Option<Moment>,
+    ) -> Result<Engine<S>, (Option<Refusal>, Connection<S>)>
+        requires { connection.in_transaction ≡ false }
+        ensures opened { IfOk result (Opens S.Store connection) }
+        ensures by { IfOk result (λ engine. IfSome latest (λ moment. engine.clock ≤ℤ moment)) }
+        ensures refused { IfErr result (λ failed. MatchOption failed.0
+            (MatchOption latest ⊥ (IsAheadOf S.Store connection failed.1))
+            (λ refusal. RefusesStore S.Store connection refusal failed.1)) }
+        ensures settled { IfErr result (λ failed. failed.1.in_transaction ≡ false) }
     {
         let (opened, lists) = match VersionStore::open(alloc, connection) {
             Ok(found) => found,
-            Err(failed) => return Err(failed),
+            Err((refusal, connection)) => return Err((Some(refusal), connection)),
         };
         let clock = opened.clock();
         let tables = match load_lawful(alloc, opened.catalog(), clock, lists) {
             Ok(loaded) => loaded,
-            Err(refusal) => return Err((refusal, opened.refuse())),
+            Err(refusal) => return Err((Some(refusal), opened.refuse())),
         };
+        if is_after(clock, latest) {
+            return Err((None, opened.refuse()));
+        }
         match opened.accept() {
             Ok(store) => Ok(Engine { store, tables }),
-            Err(failed) => Err(failed),
+            Err((refusal, connection)) => Err((Some(refusal), connection)),
         }
     }
 

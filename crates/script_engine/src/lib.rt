@@ -20,7 +20,7 @@ pub use script::noted::Noted;
 pub use script::over::run_over;
 pub use script::piece_result::PieceResult;
 pub use script::read_only::ReadOnly;
-pub use script::timed::Timed;
+pub use script::timed::{Timed, system_time};
 pub use script::{MOST_BYTES, run, run_audited, run_script};
 pub use snapshot_audit::Verdict;
 pub use statement_reports::{

@@ -1,11 +1,12 @@
 -- The engine that opening a store gives, and why one is not opened.
-use Rattle.std.specs.Prelude.{◌≡◌, ◌≢◌, ◌≤◌, ◌⊎◌, ℕ, []}
+use Rattle.std.specs.Prelude.{◌≡◌, ◌≢◌, ◌≤◌, ◌<ℤ◌, ◌⊎◌, ℕ, ℤ, []}
 use Rattle.period_core.specs.Encoding.{greatest_number}
 use Rattle.period_core.specs.Moments.{first_moment}
 use Rattle.sqlite.specs.Held.{Held, state}
 use Rattle.sqlite.specs.Store.{Ghosts}
 use Rattle.period_core.specs.declared.refusal.Refusal.{Refusal}
-use Rattle.history_model.specs.Histories.{History}
+use Rattle.period_core.specs.declared.refusal.Refusal.TheVariants.{BadStore}
+use Rattle.history_model.specs.Histories.{History, clock_of}
 use Rattle.version_tables.specs.Healthy.{IsHealthy}
 use Rattle.version_tables.specs.Making.{HasCounters}
 use Rattle.version_tables.specs.Presence.{HasNoStoreTable}
@@ -15,12 +16,13 @@ use Rattle.version_tables.specs.Tables.{no_schema}
 use Rattle.version_tables.specs.declared.form.Form.TheVariants.{Microseconds, Seconds}
 use Rattle.version_store.specs.Contents.{Contents}
 use Rattle.version_store.specs.GoodStore.{IsGoodStore}
-use Rattle.version_store.specs.StoreState.{IsCreatedAfter, IsFailure, IsUsable}
+use Rattle.version_store.specs.StoreState.{IsCreatedAfter, IsFailure, IsOpenRefusal, IsUsable}
 use Rattle.version_store.specs.StoreState.{OwnTablesAreWellFormed, SparesOthers}
 use Rattle.version_store.specs.Written.{HasIn, IsMovable}
 use Rattle.script_engine.specs.engine.EngineState.{EngineState}
 use Rattle.script_engine.specs.engine.Faults.{AreConstrained}
-use Rattle.script_engine.specs.engine.Stored.{DatabaseRepresents, EngineRepresents, WasUsable}
+use Rattle.script_engine.specs.engine.Stored.{DatabaseRepresents, EngineRepresents, IsBadStore}
+use Rattle.script_engine.specs.engine.Stored.{WasUsable}
 
 -- the engine is opened over a connection
 pub record Opens {S : Type 0} (g : Ghosts S) (connection : Held S) (engine : EngineState S)
@@ -58,6 +60,13 @@ pub record Opens {S : Type 0} (g : Ghosts S) (connection : Held S) (engine : Eng
   pub others : SparesOthers g connection engine.connection
   pub usable : WasUsable g connection engine.connection
 
+-- a store is left as it was, since the clock of whatever history its database stands for is later
+-- than a moment
+pub record IsAheadOf {S : Type 0} (g : Ghosts S) (opened left : Held S) (moment : ℤ) : Type 0 where
+  pub later : IsUsable g left → (history : History)
+      → DatabaseRepresents history (state g opened).now → moment <ℤ clock_of history
+  pub none : IsUsable g left → IsAsBefore (state g opened) (state g left)
+
 -- why a store is not opened, which leaves the connection so
 pub record IsUnopenedFor {S : Type 0} (g : Ghosts S) (opened left : Held S) (refusal : Refusal)
     : Type 0 where
@@ -70,3 +79,12 @@ pub record IsUnopenedFor {S : Type 0} (g : Ghosts S) (opened left : Held S) (ref
   -- a new one, in a database without tables: for these reasons alone too
   pub why_new : IsUsable g left → (state g opened).now.schema ≡ no_schema
       → IsFailure g opened left refusal
+
+-- the database is refused as a store for this cause, and stays as it was
+pub record RefusesStore {S : Type 0} (g : Ghosts S) (opened : Held S) (refusal : Refusal)
+    (left : Held S) : Type 0 where
+  pub named : IsOpenRefusal refusal
+  pub bad : IsUsable g left → refusal ≡ BadStore → IsBadStore (state g opened).now
+  -- a good store, or a new one, only for memory or a fault of the database
+  pub why : IsUnopenedFor g opened left refusal
+  pub none : IsUsable g left → IsAsBefore (state g opened) (state g left)

@@ -63,8 +63,9 @@ fn moment_after(since_1970: Duration) -> ClockMoment
     }
 }
 
-// The moment that the clock gives.
-fn system_time<C: Clock>(clock: &C) -> ClockMoment {
+/// The moment that a clock gives, in whole microseconds. The first one if it gives none from
+/// 1970-01-01 00:00:00 on that is before FOREVER.
+pub fn system_time<C: Clock>(clock: &C) -> ClockMoment {
     match clock.since_1970() {
         Ok(since_1970) => moment_after(since_1970),
         Err(_) => ClockMoment::first(),
@@ -77,12 +78,7 @@ fn is_ahead_of(time: ClockMoment, statement: &Statement) -> bool
 {
     match statement.form() {
         StatementForm::At(moment) => time.moment() < moment.moment(),
-        StatementForm::Create(_) => false,
-        StatementForm::Insert(_) => false,
-        StatementForm::Update(_) => false,
-        StatementForm::Delete(_) => false,
-        StatementForm::Sequenced(_) => false,
-        StatementForm::Stored(_) => false,
+        _ => false,
     }
 }
 
@@ -90,15 +86,10 @@ fn is_ahead_of(time: ClockMoment, statement: &Statement) -> bool
 fn is_query(statement: &Statement) -> bool
     ensures { IsTrue result ↔ IsQuery (plain statement.now) }
 {
-    match statement.form() {
-        StatementForm::At(_) => false,
-        StatementForm::Create(_) => false,
-        StatementForm::Insert(_) => false,
-        StatementForm::Update(_) => false,
-        StatementForm::Delete(_) => false,
-        StatementForm::Sequenced(_) => true,
-        StatementForm::Stored(_) => true,
-    }
+    matches!(
+        statement.form(),
+        StatementForm::Sequenced(_) | StatementForm::Stored(_)
+    )
 }
 
 // Moves the clock to a time, if a statement that is to be run then wants it. An `Err` refuses

@@ -33,5 +33,4 @@ returns-clause-copied g c = record {
 pub returns-in_err-engine-clause-refused : goal.returns-in_err-engine-clause-refused
 returns-in_err-engine-clause-refused g c =
     let p = err_from_is_err_and c.from_residual.result c.from_residual.ensures.1 in
-    let its = c.in_err-engine.ensures in
-    rw (p.1, p.2) (record { named = its.named; bad = its.bad; why = its.why; none = its.none })
+    rw (p.1, p.2) c.in_err-engine.ensures.refused

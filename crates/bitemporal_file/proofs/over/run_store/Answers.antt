@@ -1,4 +1,4 @@
-use Rattle.std.proofs.Common.{subst, sym}
+use Rattle.std.proofs.Common.{◌∙◌, ◌≤ℤ◌, ℤ, subst, sym}
 use Rattle.version_store.specs.StoreState.{IsUsable, SparesOthers}
 use Rattle.version_store.proofs.Beside.{spares_then}
 use Rattle.history_model.specs.Histories.{History}
@@ -20,6 +20,18 @@ returns-clause-ran g c =
     (last, leads, now, committed))
     (λ (Led : EngineState g.row.S.Denot → EngineState g.row.S.Denot → Type 0) led. (c.in_ok-engine.engine, c.run_files-ended.new.engine, c.in_ok-engine.ensures.opened, led, c.close_at_exit.ensures.same))
     _ _ _ _ c.args.reporter.now c.run_files-ended.result c.run_files-ended.new.reporter c.run_files-ended.ensures.ran
+
+-- whatever history the database stood for, the engine has its clock
+pub returns-clause-timely : goal.returns-clause-timely
+returns-clause-timely g c wanted =
+    let (time, told, by) = c.in_ok-engine.ensures.timely wanted in (
+      time,
+      told,
+      λ usable history stands.
+          let engine_usable = subst (IsUsable g.S.Store) c.close_at_exit.ensures.same usable in
+          let represents = c.in_ok-engine.ensures.opened.represents (c.run_files-ended.ensures.usable engine_usable) history stands in
+          subst (λ (clock : ℤ). clock ≤ℤ time) (represents.stored.clock ∙ represents.said.clock) by,
+    )
 
 pub returns-clause-others : goal.returns-clause-others
 returns-clause-others g c =

@@ -1,4 +1,4 @@
-use Rattle.std.proofs.Common.{inl, inr, refl}
+use Rattle.std.proofs.Common.{inl, inr, refl, sym, true≢false}
 use Rattle.std.proofs.lemmas.Result.{err_from_is_err_and}
 use Rattle.bitemporal_file.proofs.read_only.read_over.Goals as goal
 
@@ -25,5 +25,8 @@ returns-in_ok-ended-in-Ok-clause-ran g c =
 
 pub returns-in-Err-clause-ran : goal.returns-in-Err-clause-ran
 returns-in-Err-clause-ran g c =
-    let (refuses, reporter, input) = c.in-Err.ensures.refused in
-    rw (← c.as_str.ensures.value) (inr (c.in_ok-connection.connection, c.in-Err.connection, c.in_ok-connection.ensures.opened, tt, inl (c.in-Err.refusal, refuses, refl, (reporter, input))))
+    let (unused, reporter, input) = c.in-Err.ensures.refused in
+    rw (← c.as_str.ensures.value) (elim unused [
+      | inl (refusal, refuses, is) ↦ inr (c.in_ok-connection.connection, c.in-Err.connection, c.in_ok-connection.ensures.opened, tt, inl (refusal, refuses, is, (reporter, input)))
+      | inr (in_time, is, ahead) ↦ absurd (true≢false (sym in_time))
+    ])

@@ -15,7 +15,8 @@ returns c =
     let audited = c.in_ok-audited.ensures.shape c.flag.ensures.local ∙ ap₂ with_rule filed c.flag.ensures.rule in
     let stopping = c.in_ok-stopping.ensures.shape c.flag-2.ensures.local ∙ ap₂ with_rule audited c.flag-2.ensures.rule in
     let timed = c.in_ok-timed.ensures.shape c.flag-3.ensures.local ∙ ap₂ with_rule stopping c.flag-3.ensures.rule in
-    let listing = c.in_ok-listing.ensures.shape c.flag-4.ensures.local ∙ ap₂ with_rule timed c.flag-4.ensures.rule in
-    let verifying = c.in_ok-verifying.ensures.shape c.flag-5.ensures.local ∙ ap₂ with_rule listing c.flag-5.ensures.rule in
-    let reading = c.in_ok-reading.ensures.shape c.flag-6.ensures.local ∙ ap₂ with_rule verifying c.flag-6.ensures.rule in
+    let ahead = c.in_ok-ahead.ensures.shape c.flag-4.ensures.local ∙ ap₂ with_rule timed c.flag-4.ensures.rule in
+    let listing = c.in_ok-listing.ensures.shape c.flag-5.ensures.local ∙ ap₂ with_rule ahead c.flag-5.ensures.rule in
+    let verifying = c.in_ok-verifying.ensures.shape c.flag-6.ensures.local ∙ ap₂ with_rule listing c.flag-6.ensures.rule in
+    let reading = c.in_ok-reading.ensures.shape c.flag-7.ensures.local ∙ ap₂ with_rule verifying c.flag-7.ensures.rule in
     c.in_ok-whole.ensures.shape c.wait_argument.ensures.local ∙ ap₂ with_rule reading c.wait_argument.ensures.rule

@@ -67,7 +67,7 @@ pub returns-in-Err-clause-bad : goal.returns-in-Err-clause-bad
 returns-in-Err-clause-bad g c = λ usable bad. absurd (not_bad c.args.script.now c.in-Err.refusal c.in-Err.ensures.refused bad)
 
 pub returns-in-Err-open-clause-refused : goal.returns-in-Err-open-clause-refused
-returns-in-Err-open-clause-refused g c = inr (c.in-Err-open.ensures.named, c.in-Ok.ensures.cut.sound)
+returns-in-Err-open-clause-refused g c = inr (c.in-Err-open.ensures.refused.named, c.in-Ok.ensures.cut.sound)
 
 pub returns-clause-others : goal.returns-clause-others
 returns-clause-others g c =
