@@ -16,15 +16,15 @@ with U+0000, or out of memory.
 import argparse
 import contextlib
 import pathlib
-import subprocess
 import sys
 from collections.abc import Iterable, Iterator
 
 from bitemporal_scale.postgresql.server import PrivateServer, ServerFault, psql
 from bitemporal_scale.postgresql.translation import Options, translated
 from bitemporal_scale.postgresql.words import NotTranslated
-from bitemporal_tools import command_line, program
+from bitemporal_tools import command_line
 from bitemporal_tools.command_line import Fault
+from bitemporal_tools.engine_session import ran
 from bitemporal_tools.sql.lexis import decoded
 from bitemporal_tools.sql.refusals import Refused
 
@@ -35,19 +35,18 @@ class NotCompared(Exception):
 
 def ours(script: bytes) -> bytes:
     """The report of `bitemporal run`, or what it says if it refuses the whole script."""
-    ran = subprocess.run([program.path(), 'run'], input=script, stdout=subprocess.PIPE,
-                         stderr=subprocess.PIPE, check=False)
-    if ran.returncode == 2:
-        said = ran.stderr.decode(errors='replace').strip().rpartition('bitemporal: ')[2]
+    done = ran('bitemporal', ['run'], script)
+    if done.returncode == 2:
+        said = done.stderr.decode(errors='replace').strip().rpartition('bitemporal: ')[2]
         if said[:2] not in ('1 ', '2 ', '3 '):
             raise NotCompared(f'the program: {said}')
         return said.encode()
-    if ran.returncode not in (0, 1):
-        raise NotCompared(f'the program ended with status {ran.returncode}')
-    for record in ran.stdout.split(b'\n'):
+    if done.returncode not in (0, 1):
+        raise NotCompared(f'the program ended with status {done.returncode}')
+    for record in done.stdout.split(b'\n'):
         if record.startswith(b'refused,') and record.split(b',')[2] in (b'61', b'62'):
             raise NotCompared(f'the program: {record.decode()}')
-    return ran.stdout
+    return done.stdout
 
 
 def theirs(script: bytes, connection: str) -> bytes:

@@ -17,7 +17,7 @@ if TYPE_CHECKING:
     from bitemporal_server.dbapi import Connection
 
 
-def connect(store: str, script_clock: bool = False) -> 'Connection':
+def connect(store: str, script_clock: bool = False, clock_ahead: bool = False) -> 'Connection':
     """A connection of the DB-API (PEP 249) to a store, which is made if there is none."""
     from bitemporal_server import dbapi  # pylint: disable=import-outside-toplevel
-    return dbapi.connect(store, script_clock)
+    return dbapi.connect(store, script_clock, clock_ahead)

@@ -1,6 +1,6 @@
 """Makes a new store of a store, with other tables and the same history.
 
-    tools/alter STORE --to NEW.store CHANGE ..
+    tools/alter STORE --to NEW.store CHANGE .. | --clock-now
 
 For instance
 
@@ -28,47 +28,36 @@ program, which judges it: if it refuses it, the cause is reported, the status is
 NEW.store. A run that is killed leaves none either; a file NEW.store.*.part may stay then, and can
 be removed. Two versions that a change makes equal on other days or moments stay two.
 
+--clock-now moves each moment that is after the time of this machine, the clock and those of
+versions, to the last microseconds up to that time, in their order, and says which became which. If
+there is none, that is said, and no store is made.
+
 The exit status is 0; 1 if the program refuses the new store; and 2 if a change can't be made
 of its tables, a file can't be read or written, or NEW.store exists already.
 """
 import argparse
 import difflib
-import os
-import tempfile
 from collections.abc import Iterator, Sequence
 
-from bitemporal_tools import command_line
+from bitemporal_tools import command_line, options
+from bitemporal_tools.alteration import clock
 from bitemporal_tools.alteration.changes import Change
 from bitemporal_tools.alteration.schema import Altered, Schema, converted
-from bitemporal_tools.alteration.statements import changes_of
 from bitemporal_tools.alteration.words import add_options
-from bitemporal_tools.command_line import Fault, counted, read_text, write_output
+from bitemporal_tools.command_line import Fault, counted, write_output
 from bitemporal_tools.stores import reading, writing
 from bitemporal_tools.stores.reading import Store
 from bitemporal_tools.stores.tables import create_tables
 
 
-class Script(argparse.Action):
-    """Adds the changes of a script to those before it."""
-
-    def __call__(self, parser: argparse.ArgumentParser, namespace: argparse.Namespace,
-                 values: object, option_string: object = None) -> None:
-        path = str(values)
-        namespace.changes = [*(namespace.changes or ()), *changes_of(path, read_text(path))]
-
-
-def schema_after(store: Store, changes: Sequence[Change]) -> Schema:
-    schema = Schema(store.tables)
-    for change in changes:
-        change.apply(schema)
-    return schema
-
-
-def versions(store: Store, tables: Sequence[Altered]) -> Iterator[writing.Numbered]:
+def versions(store: Store, tables: Sequence[Altered],
+             moves: dict[int, int]) -> Iterator[writing.Numbered]:
     """All versions of the new store, by the new numbers of their tables."""
     for number, altered in enumerate(tables, 1):
         for version in converted(altered, store.versions(altered.number)):
-            yield number, version
+            yield number, version if not moves else version._replace(
+                since=moves.get(version.since, version.since),
+                until=moves.get(version.until, version.until))
 
 
 def told(store: Store, tables: Sequence[Altered]) -> str:
@@ -87,43 +76,43 @@ def told(store: Store, tables: Sequence[Altered]) -> str:
     return ''.join(f'{line}\n' for line in lines)
 
 
-def alter(store: Store, changes: Sequence[Change], new: str) -> list[Altered]:
-    """Makes the new store, and gives its tables."""
-    tables = schema_after(store, changes).tables()
-    writing.make(new, store.path, store.clock, [altered.table for altered in tables],
-                 versions(store, tables))
+def alter(store: Store, changes: Sequence[Change], new: str,
+          moves: dict[int, int]) -> list[Altered]:
+    """Makes the new store, where moments become others, and gives its tables."""
+    schema = Schema(store.tables)
+    for change in changes:
+        change(schema)
+    tables = schema.tables()
+    writing.make(new, store.path, moves.get(store.clock, store.clock),
+                 [altered.table for altered in tables], versions(store, tables, moves))
     return tables
 
 
 def parsed(arguments: Sequence[str]) -> argparse.Namespace:
     parser = command_line.parser('alter', __doc__, 'STORE --to NEW.store CHANGE ..')
-    parser.add_argument('store', metavar='STORE')
-    parser.add_argument('--to', metavar='NEW.store', help='the store that is made')
+    options.add(parser, {'STORE': '', '--to NEW.store': 'the store that is made'})
     add_options(parser)
-    parser.add_argument('--script', metavar='FILE', action=Script,
-                        help='changes as ALTER TABLE and DROP TABLE')
-    parser.add_argument('--dry-run', action='store_true',
-                        help='tell what would change, and leave no store')
-    parser.set_defaults(changes=[])
-    options = parser.parse_args(arguments)
-    if not options.changes:
-        raise Fault('no change is named; --help lists them')
-    if not options.to and not options.dry_run:
-        raise Fault('--to NEW.store names the store that is made')
-    return options
+    options.add(parser, {'--clock-now': 'move moments after the time of this machine up to it',
+                         '--dry-run': 'tell what would change, and leave no store'})
+    wanted = parser.parse_args(arguments)
+    if wanted.clock_now == bool(wanted.changes):
+        raise Fault('--clock-now makes no other change' if wanted.clock_now else
+                    'no change is named; --help lists them')
+    return wanted
 
 
 def main(arguments: Sequence[str]) -> int:
-    options = parsed(arguments)
-    with reading.opened(options.store) as store:
-        if options.dry_run:
-            with tempfile.TemporaryDirectory() as folder:
-                tables = alter(store, options.changes, os.path.join(folder, 'store'))
-            write_output(told(store, tables))
+    wanted = parsed(arguments)
+    with writing.place(wanted) as new, reading.opened(wanted.store) as store:
+        moves = clock.moves_of(store) if wanted.clock_now else {}
+        if wanted.clock_now and not moves:
+            write_output(f'{wanted.store} has no moment after the time of this machine\n')
             return 0
-        tables = alter(store, options.changes, options.to)
-        counts = store.counts()
+        tables, counts = alter(store, wanted.changes, new, moves), store.counts()
+        if wanted.dry_run:
+            write_output(clock.told(moves) + told(store, tables))
+            return 0
         count = sum(counts[altered.number - 1] for altered in tables)
-        write_output(f'{options.to}: {counted(len(tables), "table")},'
-                     f' {counted(count, "version")}\n')
+        write_output(f'{clock.told(moves)}{wanted.to}: {counted(len(tables), "table")},'
+                     f' {counted(count, "version")}\n', wanted.to)
     return 0

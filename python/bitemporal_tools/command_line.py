@@ -3,8 +3,10 @@ faults that end a run with status 2."""
 import argparse
 import os
 import pathlib
+import signal
 import sys
-from collections.abc import Callable, Mapping
+import time
+from collections.abc import Callable, Iterable, Mapping
 from typing import NoReturn, Optional, Union
 
 
@@ -41,6 +43,17 @@ def parser(name: str, description: Optional[str], usage: Optional[str] = None) -
                   formatter_class=argparse.RawDescriptionHelpFormatter)
 
 
+def pairs(texts: Iterable[str], option: str) -> dict[str, str]:
+    """The texts NAME=VALUE of an option as a dict by the name in upper case."""
+    found = {}
+    for text in texts:
+        name, equals, value = text.partition('=')
+        if not equals or not name.strip():
+            raise Fault(f'{option} {text}: write NAME=VALUE')
+        found[name.strip().upper()] = value
+    return found
+
+
 def counted(count: int, what: str) -> str:
     """A count with its noun: 1 row, 2 rows."""
     return f'{count} {what}' if count == 1 else f'{count} {what}s'
@@ -69,20 +82,42 @@ def read_text(path: Optional[str]) -> str:
 def write_files(folder: Union[str, pathlib.Path],
                 texts: Mapping[str, Union[str, bytes]]) -> None:
     """Writes texts, or bytes, by name into a folder, which is made if it is missing."""
+    for name, text in texts.items():
+        path = os.path.join(folder, name)
+        try:
+            os.makedirs(folder, exist_ok=True)
+            write_whole(path, text if isinstance(text, bytes) else text.encode('utf-8'))
+        except OSError as error:
+            raise Fault(f'cannot write {path}: {error.strerror}') from None
+
+
+def write_whole(path: str, data: bytes) -> None:
+    """Writes a file under another name first, so that it is as it was or whole. A device or a pipe
+    is written as it is."""
+    if os.path.exists(path) and not os.path.isfile(path):
+        pathlib.Path(path).write_bytes(data)
+        return
+    place = os.path.realpath(path)
+    folder, name = os.path.split(place)
+    part = pathlib.Path(folder, f'{name[:100]}.{os.getpid()}.part')
     try:
-        os.makedirs(folder, exist_ok=True)
-        for name, text in texts.items():
-            data = text if isinstance(text, bytes) else text.encode('utf-8')
-            pathlib.Path(folder, name).write_bytes(data)
+        part.write_bytes(data)
+        if os.path.exists(place):
+            part.chmod(os.stat(place).st_mode & 0o777)
+        part.replace(place)
+    finally:
+        part.unlink(missing_ok=True)
+
+
+def write_output(text: Union[str, bytes], made: str = '') -> None:
+    """Writes a text in UTF-8, or bytes, to standard output, when a file exists that was made."""
+    try:
+        sys.stdout.buffer.write(text if isinstance(text, bytes)
+                                else text.encode('utf-8', 'backslashreplace'))
+        sys.stdout.buffer.flush()
     except OSError as error:
-        raise Fault(f'cannot write {error.filename}: {error.strerror}') from None
-
-
-def write_output(text: Union[str, bytes]) -> None:
-    """Writes a text in UTF-8, or bytes, to standard output."""
-    sys.stdout.buffer.write(text if isinstance(text, bytes)
-                            else text.encode('utf-8', 'backslashreplace'))
-    sys.stdout.buffer.flush()
+        told = f'{made} is made; cannot write' if made else None
+        raise OSError(error.errno, error.strerror, told) from None
 
 
 def leave(status: int) -> NoReturn:
@@ -93,14 +128,35 @@ def leave(status: int) -> NoReturn:
     os._exit(status)
 
 
+def end_by_signals() -> None:
+    """Has SIGTERM and SIGHUP end the process as Ctrl-C does: what is temporary is removed. Another
+    one within a second does not keep it from that."""
+    last = -1.0
+
+    def end(number: int, _: object) -> None:
+        nonlocal last
+        if time.monotonic() > last + 1:
+            last = time.monotonic()
+            sys.exit(128 + number)
+
+    for number in (signal.SIGTERM, signal.SIGHUP):
+        if signal.getsignal(number) == signal.SIG_DFL:
+            signal.signal(number, end)
+
+
 def run(name: str, main: Callable[[], int]) -> NoReturn:
     """Runs a tool's main, and ends with its status. A fault is reported after the tool's name."""
+    end_by_signals()
     try:
-        sys.exit(main())
+        status = main()
+        sys.stdout.flush()
     except Fault as fault:
         print(f'{name}: {fault}', file=sys.stderr)
-        sys.exit(fault.status)
-    except BrokenPipeError:
-        # Whoever read the output has stopped. Without this Python reports it once more as it ends.
+        status = fault.status
+    except OSError as error:
+        # Without this Python reports it once more as it ends. A reader may just have stopped.
         os.dup2(os.open(os.devnull, os.O_WRONLY), sys.stdout.fileno())
-        sys.exit(2)
+        if error.filename or not isinstance(error, BrokenPipeError):
+            print(f'{name}: {error.filename or "cannot write"}: {error.strerror}', file=sys.stderr)
+        status = 2
+    sys.exit(status)

@@ -7,7 +7,7 @@ the dates that they are.
 from bitemporal_tools.reports.records import quoted
 from bitemporal_tools.reports.report import Statement, Versions
 from bitemporal_tools.sql.catalog import Table
-from bitemporal_tools.sql.tree import Column, Name
+from bitemporal_tools.sql.tree import Name
 
 from .command_line import Fault
 
@@ -15,10 +15,10 @@ from .command_line import Fault
 POSTGRESQL, DUCKDB, SQLITE = 'postgresql', 'duckdb', 'sqlite3'
 COMMANDS = {POSTGRESQL: 'psql -f load.sql DATABASE', DUCKDB: 'duckdb DATABASE < load.sql',
             SQLITE: 'sqlite3 DATABASE < load.sql'}
-TYPES = {POSTGRESQL: {'INTEGER': 'bigint', 'DATE': 'date', 'TIMESTAMP': 'timestamp'},
-         DUCKDB: {'INTEGER': 'BIGINT', 'DATE': 'DATE', 'TIMESTAMP': 'TIMESTAMP'},
-         SQLITE: {'INTEGER': 'INTEGER', 'DATE': 'TEXT', 'TIMESTAMP': 'TEXT'}}
-TEXT_TYPES = {POSTGRESQL: 'varchar({}) COLLATE "C"', DUCKDB: 'VARCHAR', SQLITE: 'TEXT'}
+KINDS = ('INTEGER', 'VARCHAR', 'DATE', 'TIMESTAMP')
+TYPES = {POSTGRESQL: dict(zip(KINDS, ('bigint', 'varchar({}) COLLATE "C"', 'date', 'timestamp'))),
+         DUCKDB: dict(zip(KINDS, ('BIGINT', 'VARCHAR', 'DATE', 'TIMESTAMP'))),
+         SQLITE: dict(zip(KINDS, ('INTEGER', 'TEXT', 'TEXT', 'TEXT')))}
 LONGEST_NAME = {POSTGRESQL: 63}
 
 
@@ -28,11 +28,8 @@ def name_of(name: str) -> str:
 
 def last_versions(statements: list[Statement]) -> dict[Name, Statement]:
     """The last list of versions of each table, by the table's name."""
-    found = {}
-    for statement in statements:
-        if isinstance(statement.outcome, Versions):
-            found[statement.outcome.table.name] = statement
-    return found
+    return {statement.outcome.table.name: statement for statement in statements
+            if isinstance(statement.outcome, Versions)}
 
 
 class Files:
@@ -58,9 +55,8 @@ class Files:
         """The CSV file: texts in quotes, everything else without."""
         kinds = [column.kind for column in versions.table.columns]
         lines = [','.join(name.lower() for name in versions.names)]
-        for row in versions.rows:
-            lines.append(','.join(self.text(cell) if kind == 'VARCHAR' else cell
-                                  for kind, cell in zip(kinds, row)))
+        lines += [','.join(self.text(cell) if kind == 'VARCHAR' else cell
+                           for kind, cell in zip(kinds, row)) for row in versions.rows]
         return '\n'.join(lines) + '\n'
 
     def text(self, cell: str) -> str:
@@ -71,8 +67,8 @@ class Files:
         return quoted(cell)
 
     def create(self, table: Table) -> str:
-        columns = [f'{name_of(column.name)} {self.type_of(column)} NOT NULL'
-                   for column in table.columns]
+        columns = [f'{name_of(column.name)} {TYPES[self.kind][column.kind].format(column.number)}'
+                   ' NOT NULL' for column in table.columns]
         if self.kind == POSTGRESQL:
             period = table.period
             columns.append(f'{name_of(period.name)} daterange GENERATED ALWAYS AS'
@@ -80,11 +76,6 @@ class Files:
         elements = ',\n  '.join(columns)
         ending = ' STRICT' if self.kind == SQLITE else ''
         return f'CREATE TABLE {name_of(table.name)} (\n  {elements}){ending};'
-
-    def type_of(self, column: Column) -> str:
-        if column.kind == 'VARCHAR':
-            return TEXT_TYPES[self.kind].format(column.number)
-        return TYPES[self.kind][column.kind]
 
     def copy(self, versions: Versions) -> str:
         name = versions.table.name.lower()

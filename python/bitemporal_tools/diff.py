@@ -1,7 +1,5 @@
 """Says what one store has and another lacks: clock, tables and versions.
 
-    tools/diff OLD.store NEW.store
-
 A line that begins with - is of OLD.store alone, and one with + of NEW.store alone:
 
     -clock,MOMENT                       the moment of the last AT
@@ -18,14 +16,14 @@ The exit status is 0 if both have the same, 1 if they differ, and 2 if one can't
 import sys
 from collections.abc import Iterator, Sequence
 
-from bitemporal_tools import command_line
-from bitemporal_tools.command_line import counted
+from bitemporal_tools import command_line, options
 from bitemporal_tools.reports.records import record
 from bitemporal_tools.stores import reading
 from bitemporal_tools.stores.comparing import difference, sort_key
 from bitemporal_tools.stores.history_files import Cells
 from bitemporal_tools.stores.reading import Store, Version
-from bitemporal_tools.stores.spelling import moment_text, parts_of
+from bitemporal_tools.stores.spelling import moment_text
+from bitemporal_tools.stores.states import Values
 from bitemporal_tools.stores.tables import Table, elements
 
 SIGNS = '-+'
@@ -45,12 +43,8 @@ def projected(store: Store, name: str, columns: Sequence[str]) -> Iterator[Versi
     table = store.tables[number - 1]
     if table.value_names == list(columns):
         return store.versions(number)
-    places = table.places(columns)
-
-    def values(version: Version) -> bytes:
-        parts = parts_of(version.values)
-        return b''.join([parts[place] for place in places])
-    return iter(sorted((version._replace(values=values(version))
+    values = Values(table, columns)
+    return iter(sorted((version._replace(values=values.of(version))
                         for version in store.versions(number)), key=sort_key))
 
 
@@ -64,22 +58,19 @@ class Difference:
     def lines(self) -> Iterator[str]:
         clocks = [f'clock,{moment_text(store.clock)}' for store in self.stores]
         yield from two_lists(clocks[:1], clocks[1:])
-        tables = [{table.name: (table, store) for table in store.tables} for store in self.stores]
-        named = [[f'table,{name}' for name in found] for found in tables]
-        yield from two_lists(named[0], named[1])
-        for name, (table, _) in tables[0].items():
-            if name in tables[1]:
-                yield from self.of_tables(table, tables[1][name][0])
+        first, second = ({table.name: table for table in store.tables} for store in self.stores)
+        yield from two_lists([f'table,{name}' for name in first],
+                             [f'table,{name}' for name in second])
+        for name in {**first, **second}:
+            if name in first and name in second:
+                yield from self.of_tables(first[name], second[name])
             else:
-                yield from self.of_one(table, 0)
-        for name, (table, _) in tables[1].items():
-            if name not in tables[0]:
-                yield from self.of_one(table, 1)
+                yield from self.of_one(first.get(name) or second[name], name in second)
 
-    def of_one(self, table: Table, side: int) -> Iterator[str]:
+    def of_one(self, table: Table, is_second: bool) -> Iterator[str]:
         """The versions of a table that one store alone has."""
-        versions = projected(self.stores[side], table.name, table.value_names)
-        return self.of_versions(table, ((bool(side), version) for version in versions))
+        versions = projected(self.stores[is_second], table.name, table.value_names)
+        return self.of_versions(table, ((is_second, version) for version in versions))
 
     def of_tables(self, first: Table, second: Table) -> Iterator[str]:
         """The lines about a table of both stores."""
@@ -89,7 +80,9 @@ class Difference:
         yield from two_lists(found[0], found[1], head)
         common = [column.name for column in first.values if any(
             column.name == other.name and column.kind == other.kind for other in second.values)]
-        shown = first if first.value_names == common else narrowed(first, common)
+        gone = set(first.value_names) - set(common)
+        shown = first._replace(columns=tuple(column for column in first.columns
+                                             if column.name not in gone))
         yield from self.of_versions(shown, difference(*(
             projected(store, first.name, common) for store in self.stores)))
 
@@ -100,26 +93,18 @@ class Difference:
             yield f'{SIGNS[is_second]}{record([table.name, *cells.of(version)])}'
 
 
-def narrowed(table: Table, names: Sequence[str]) -> Table:
-    """A table with some of its value columns alone."""
-    gone = set(table.value_names) - set(names)
-    return Table(table.name, tuple(column for column in table.columns if column.name not in gone),
-                 table.period, table.start, table.end, ())
-
-
 def main(arguments: Sequence[str]) -> int:
     parser = command_line.parser('diff', __doc__, 'OLD.store NEW.store')
-    parser.add_argument('old', metavar='OLD.store')
-    parser.add_argument('new', metavar='NEW.store')
-    options = parser.parse_args(arguments)
-    with reading.opened(options.old) as first, reading.opened(options.new) as second:
-        difference_of_both = Difference(first, second)
+    options.add(parser, {'OLD.store': '', 'NEW.store': ''})
+    wanted = parser.parse_args(arguments)
+    with reading.opened(wanted.old) as first, reading.opened(wanted.new) as second:
+        found = Difference(first, second)
         is_other = False
-        for line in difference_of_both.lines():
+        for line in found.lines():
             is_other = True
             sys.stdout.buffer.write(line.encode('utf-8'))
         sys.stdout.buffer.flush()
-    for name, (old, new) in difference_of_both.counts.items():
-        print(f'diff: {name}: {counted(old, "version")} in {options.old} alone, {new} in'
-              f' {options.new} alone', file=sys.stderr)
+    for name, (old, new) in found.counts.items():
+        print(f'diff: {name}: {command_line.counted(old, "version")} in {wanted.old} alone, {new}'
+              f' in {wanted.new} alone', file=sys.stderr)
     return 1 if is_other else 0

@@ -17,7 +17,6 @@ given later.
 STORE is never written. The exit status is 0; 1 if no script makes the history; and 2 if a
 file can't be read or written, or FOLDER or FILE exists already.
 """
-import contextlib
 import os
 import shutil
 import sys
@@ -25,79 +24,57 @@ import tempfile
 from collections.abc import Sequence
 from typing import BinaryIO, cast
 
-from bitemporal_tools import command_line
+from bitemporal_tools import command_line, options
 from bitemporal_tools.command_line import Fault
 from bitemporal_tools.stores import history_files, reading
 from bitemporal_tools.stores.history_script import write_checked
 from bitemporal_tools.stores.reading import Store
-from bitemporal_tools.stores.writing import put_in_place, usual_mode
+from bitemporal_tools.stores.writing import part_of, put_in_place, sync
 
 
 def write_folder(store: Store, folder: str) -> None:
-    """Writes the folder under another name first."""
-    if os.path.lexists(folder):
-        raise Fault(f'{folder} is there already')
-    top, name = os.path.split(os.path.abspath(folder))
-    try:
-        part = tempfile.mkdtemp('.part', f'{name[:100]}.', top)
-        try:
-            history_files.write(store, part)
-            mask = os.umask(0)
-            os.umask(mask)
-            os.chmod(part, 0o777 & ~mask)
-            os.rename(part, folder)
-        finally:
-            shutil.rmtree(part, ignore_errors=True)
-    except OSError as error:
-        raise Fault(f'cannot write {folder}: {error.strerror}') from None
+    """Writes the folder under another name first. Who may read the store may read it."""
+    with part_of(folder) as part:
+        made = os.path.join(part, 'dump')
+        os.mkdir(made)
+        history_files.write(store, made)
+        for name in os.listdir(made):
+            os.chmod(os.path.join(made, name), store.mode)
+            sync(os.path.join(made, name))
+        os.chmod(made, 0o700 | store.mode | store.mode >> 2 & 0o111)
+        sync(made)
+        os.rename(made, folder)
+        sync(os.path.dirname(part))
 
 
 def write_script(store: Store, path: str) -> None:
     """Writes the script to standard output, or by another name first."""
-    if os.path.lexists(path):
-        raise Fault(f'{path} is there already')
-    try:
-        with tempfile.TemporaryFile() as file:
-            script = cast(BinaryIO, file)
-            told = write_checked(store, script)
-            script.seek(0)
-            if path:
-                write_file(script, path)
-            else:
-                shutil.copyfileobj(script, sys.stdout.buffer)
-                sys.stdout.buffer.flush()
-    except BrokenPipeError:
-        raise
-    except OSError as error:
-        raise Fault(f'cannot write {path or "the script"}: {error.strerror}') from None
+    with tempfile.TemporaryFile() as file:
+        script = cast(BinaryIO, file)
+        told = write_checked(store, script)
+        script.seek(0)
+        if path:
+            with part_of(path) as part:
+                with open(os.path.join(part, 'script'), 'wb') as output:
+                    shutil.copyfileobj(script, output)
+                os.chmod(output.name, store.mode)
+                put_in_place(output.name, path)
+        else:
+            shutil.copyfileobj(script, sys.stdout.buffer)
+            sys.stdout.buffer.flush()
     print(f'dump: {told}', file=sys.stderr)
-
-
-def write_file(source: BinaryIO, path: str) -> None:
-    """Copies what there is to read to a new file, which exists as a whole or not at all."""
-    folder, name = os.path.split(os.path.abspath(path))
-    descriptor, part = tempfile.mkstemp('.part', f'{name[:100]}.', folder)
-    try:
-        with open(descriptor, 'wb') as output:
-            shutil.copyfileobj(source, output)
-        os.chmod(part, usual_mode())
-        put_in_place(part, path)
-    finally:
-        with contextlib.suppress(FileNotFoundError):
-            os.unlink(part)
 
 
 def main(arguments: Sequence[str]) -> int:
     parser = command_line.parser('dump', __doc__, 'STORE [--script] --to PLACE')
-    parser.add_argument('store', metavar='STORE')
-    parser.add_argument('--to', metavar='PLACE', default='', help='the folder, or the script')
-    parser.add_argument('--script', action='store_true', help='write a script')
-    options = parser.parse_args(arguments)
-    if not options.to and not options.script:
+    options.add(parser, {'STORE': ''})
+    options.add(parser, {'--to PLACE': 'the folder, or the script'}, default='')
+    options.add(parser, {'--script': 'write a script'})
+    wanted = parser.parse_args(arguments)
+    if not wanted.to and not wanted.script:
         raise Fault('--to FOLDER names the folder that is made')
-    with reading.opened(options.store) as store:
-        if options.script:
-            write_script(store, options.to)
-        else:
-            write_folder(store, options.to)
+    if os.path.lexists(wanted.to):
+        raise Fault(f'{wanted.to} is there already')
+    with reading.opened(wanted.store) as store:
+        (write_script if wanted.script else write_folder)(store, wanted.to)
     return 0

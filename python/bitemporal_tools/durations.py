@@ -1,42 +1,24 @@
 """The numbers of days of the rows of an answer: in all, in a row, and the gaps between.
 
     ./bitemporal run x.sql | tools/durations x.sql --by ENO --as-of 2024-06-30
-    tools/durations SCRIPT [REPORT] [--only WHICH] [--by COLUMNS] [--as-of DAY] [--top N]
-                    [--rows | --stretches | --gaps] [--summary]
-
-REPORT is what `run` printed for SCRIPT; if it is left out or `-`, it is standard input. With
---run SCRIPT is run for it, and with --store STORE over a store, which it may not change. WHICH is
-the number or the name of a statement, if the script has more than one answer. --csv FILE takes
-an answer that was written as CSV instead, such as what tools/ever prints; `--csv -` reads standard
-input.
 
 Rows that are alike in the columns of --by are a group; without --by these are all columns. Printed
 are of each group the days on which it has a row (each day once), the number of its stretches (days
 in a row), the days of the longest one, the first day, the last day, and the days of the gaps
 between its stretches.
 
---rows prints each row of the answer with its days in place of that, --stretches each stretch of a
-group, and --gaps each gap. --top N takes the N longest. --summary prints one line about all that
-would be printed: how many, the days in all, on average (two digits, rounded), the fewest and the
-most.
-
-A row without an end holds until 9999-12-31, so its days can't be counted: --as-of DAY names the
-last day that is counted, for all rows.
-
-The exit status is 0; 1 if the report has a refused statement, written to standard error, or an
-answer that is asked for is missing; and 2 if the command line or a file is wrong, or the report
-isn't the script's.
+A row without an end holds until 9999-12-31, so its days can't be counted but by --as-of.
 """
 import argparse
 import sys
 from collections.abc import Sequence
 from typing import NamedTuple
 
-from bitemporal_tools import command_line
+from bitemporal_tools import options
 from bitemporal_tools.command_line import Fault, counted
 from bitemporal_tools.days.numbers import FIRST, LAST, iso, ordinal
-from bitemporal_tools.days.rows import DayTable, Values, picked
-from bitemporal_tools.days.stretches import Period, days, gaps, stretches
+from bitemporal_tools.days.rows import DayTable, Values, stretches_by
+from bitemporal_tools.days.stretches import Period, days, gaps
 from bitemporal_tools.days.windows import Window
 from bitemporal_tools.reports import asked, forms
 from bitemporal_tools.reports.answer_tables import Table, free_names, in_order
@@ -53,19 +35,20 @@ class Duration(NamedTuple):
     rest: list[str]
 
 
-def options(words: Sequence[str]) -> argparse.Namespace:
-    parser = command_line.parser('durations', __doc__, 'SCRIPT [REPORT] [OPTIONS]')
-    asked.add_options_of_one(parser)
-    parser.add_argument('--by', metavar='COLUMNS', help='the columns of a group: all')
+def wanted_of(words: Sequence[str]) -> argparse.Namespace:
+    parser = asked.parser('durations', __doc__, {
+        **asked.OPTIONS_OF_ONE, '--by COLUMNS': 'the columns of a group: all',
+        '--as-of DAY': 'the last day that is counted, for all rows',
+        '--summary': 'one line about all that would be printed: how many, the days in all, on'
+                     ' average (two digits, rounded), the fewest and the most'},
+        'SCRIPT [REPORT] [--rows | --stretches | --gaps] [OPTIONS]')
+    options.add(parser, {'--top N': 'the N longest'}, type=int)
     what = parser.add_mutually_exclusive_group()
-    for name, words_of_help in (('rows', 'each row of the answer'),
-                                ('stretches', 'each stretch of days in a row'),
+    for name, words_of_help in (('rows', 'each row of the answer with its days'),
+                                ('stretches', 'each stretch of days in a row of a group'),
                                 ('gaps', 'each gap between two stretches')):
         what.add_argument(f'--{name}', dest='what', action='store_const', const=name,
                           help=words_of_help)
-    parser.add_argument('--as-of', metavar='DAY', help='the last day that is counted')
-    parser.add_argument('--top', metavar='N', type=int, help='the N longest')
-    parser.add_argument('--summary', action='store_true', help='one line about all of them')
     forms.add_options(parser)
     return parser.parse_args(words)
 
@@ -85,14 +68,6 @@ def until(table: DayTable, as_of: str, what: str) -> DayTable:
     return table
 
 
-def periods_by(table: DayTable, places: Sequence[int]) -> dict[Values, list[Period]]:
-    """The stretches of each group."""
-    found: dict[Values, list[Period]] = {}
-    for row in table.rows:
-        found.setdefault(picked(row.values, places), []).append((row.start, row.end))
-    return {values: stretches(periods) for values, periods in found.items()}
-
-
 def of_period(values: Values, period: Period) -> Duration:
     return Duration(values, days([period]), [iso(period[0]), iso(period[1])])
 
@@ -107,7 +82,7 @@ def durations(table: DayTable, places: Sequence[int], what: str) -> list[Duratio
     """The output: rows, stretches, gaps or groups."""
     if what == 'rows':
         return [of_period(row.values, (row.start, row.end)) for row in table.rows]
-    groups = periods_by(table, places)
+    groups = stretches_by(table.rows, places)
     if not what:
         return [of_group(values, found) for values, found in groups.items()]
     return [of_period(values, period) for values, found in groups.items()
@@ -134,13 +109,12 @@ def summary(table: DayTable, found: list[Duration]) -> Table:
     lengths = [one.days for one in found]
     row = [len(lengths), sum(lengths), average(sum(lengths), len(lengths)), min(lengths),
            max(lengths)] if lengths else [0, 0, '', '', '']
-    return Table(table.number, table.title, table.name,
-                 ['COUNT', 'DAYS', 'AVERAGE', 'LEAST', 'MOST'], [list(map(str, row))],
-                 ['INTEGER'] * len(row), scales={2: 2})
+    return Table(*table.called, ['COUNT', 'DAYS', 'AVERAGE', 'LEAST', 'MOST'],
+                 [list(map(str, row))], ['INTEGER'] * len(row), scales={2: 2})
 
 
 def main(words: Sequence[str]) -> int:
-    wanted = options(words)
+    wanted = wanted_of(words)
     forms.judge(wanted)
     if wanted.top is not None and wanted.top < 1:
         raise Fault('--top: write 1 or more')
@@ -160,7 +134,7 @@ def main(words: Sequence[str]) -> int:
         shown = Table.of_periods(table, free_names([*names, 'DAYS']), rows,
                                  table.kinds_at(places, 'INTEGER'))
     else:
-        shown = Table(table.number, table.title, table.name, free_names([*names, *OF_GROUP]), rows,
+        shown = Table(*table.called, free_names([*names, *OF_GROUP]), rows,
                       table.kinds_at(places, *OF_GROUP.values()))
     forms.write([shown], wanted)
     return status

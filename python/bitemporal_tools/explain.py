@@ -19,22 +19,20 @@ is not this script's.
 """
 from collections.abc import Sequence
 
-from bitemporal_tools import command_line
+from bitemporal_tools import command_line, options
 from bitemporal_tools.command_line import Fault, read_bytes, read_text
 from bitemporal_tools.explanation.explaining import Explanation
-from bitemporal_tools.reports.listing import add_option, named_catalog
+from bitemporal_tools.reports.listing import TABLES, named_catalog
 from bitemporal_tools.reports.report import NotOfScript
 
 
 def main(words: Sequence[str]) -> int:
     parser = command_line.parser('explain', __doc__)
-    parser.add_argument('script', metavar='SCRIPT')
-    parser.add_argument('report', metavar='REPORT', nargs='?', default='-')
-    add_option(parser)
-    options = parser.parse_args(words)
+    options.add(parser, {'SCRIPT': '', '[REPORT]': '', **TABLES})
+    wanted = parser.parse_args(words)
     try:
-        explanation = Explanation(options.script, read_bytes(options.script),
-                                  read_text(options.report), named_catalog(options.tables))
+        explanation = Explanation(wanted.script, read_bytes(wanted.script),
+                                  read_text(wanted.report), named_catalog(wanted.tables))
     except NotOfScript as why:
         raise Fault(why) from None
     texts = [*explanation.texts, *explanation.notes]

@@ -6,13 +6,14 @@ taken too. `infinity`, an empty end and an end that a range leaves open are 9999
 import datetime
 import re
 from collections.abc import Iterator
-from typing import NamedTuple, Optional
+from typing import Any
 
 from bitemporal_tools.loading import cells
 from bitemporal_tools.loading.corrections import Fact
 from bitemporal_tools.loading.csv_file import BadLine, CsvFile, Record
 from bitemporal_tools.loading.fact_columns import in_columns
 from bitemporal_tools.loading.script_writer import StatementWriter
+from bitemporal_tools.reports.answer_tables import free_names
 from bitemporal_tools.reports.report import FIRST_DAY, LAST_DAY
 from bitemporal_tools.sql.catalog import Catalog, Table
 from bitemporal_tools.sql.queries import columns_of
@@ -34,10 +35,11 @@ TABLE = '''CREATE TABLE {name} (ROW_NUMBER INTEGER,
  PRIMARY KEY (ROW_NUMBER, P WITHOUT OVERLAPS)) WITH SYSTEM VERSIONING'''
 
 
-class JudgedRow(NamedTuple):
-    values: tuple[Value, ...]
-    start: datetime.date
-    end: datetime.date
+def value_of(cell: str, kind: str) -> Value:
+    """The value of a cell. ValueError if it is none of this type."""
+    if kind == 'VARCHAR':
+        return cells.text(cell, LONGEST)
+    return cells.date(cell, DATE) if kind == 'DATE' else cells.whole_number(cell)
 
 
 class JudgedTable:
@@ -52,62 +54,45 @@ class JudgedTable:
         self.names = [f'C{number}' for number in range(1, len(self.kinds) + 1)]
         self.answer_names = [item.new_name or item.column.name
                              for item in selects(query)[0].items]
-        self.name, number = 'JUDGED', 2
-        while self.name in catalog.tables:
-            self.name, number = f'JUDGED_{number}', number + 1
+        *_, self.name = free_names([*catalog.tables, 'JUDGED'])
 
-    def rows(self, file: CsvFile, is_inclusive: bool) -> list[JudgedRow]:
-        """The rows of the file: lists of values, first day and end. What is bad is reported to
-        it."""
+    def rows(self, file: CsvFile, is_inclusive: bool) -> list[Fact]:
+        """The rows of the file, each with its number. What is bad is reported to it."""
         count = len(self.kinds)
         if len(file.header) not in (count + 1, count + 2, count + 4):
             raise Fault(f'{file.path}: {len(file.header)} columns, and the query has {count}: write'
                         ' them, and then the first day and the end, or one range of days', 1)
-        found = []
+        found: list[Fact] = []
         for record in file.records:
-            values = [self.value(file, record, place, kind)
-                      for place, kind in enumerate(self.kinds)]
-            days = self.days(file, record, is_inclusive)
-            good = tuple(value for value in values if value is not None)
-            if days and len(good) == count:
-                found.append(JudgedRow(good, *days))
+            good: list[Any] = []
+            for place, kind in enumerate([*self.kinds, 'days']):
+                try:
+                    good.append(self.days(record, is_inclusive) if place == count else
+                                value_of(record.cells[place], kind))
+                except ValueError as error:
+                    file.bad.append(BadLine(record.line, place, str(error)))
+            if len(good) == count + 1:
+                number = len(found) + 1
+                found.append(Fact(number, '', (number,), tuple(good[:-1]), *good[-1]))
         return found
 
-    @staticmethod
-    def value(file: CsvFile, record: Record, place: int, kind: str) -> Optional[Value]:
-        cell = record.cells[place]
-        try:
-            if kind == 'VARCHAR':
-                return cells.text(cell, LONGEST)
-            if kind == 'DATE':
-                return cells.date(cell, DATE)
-            return cells.whole_number(cell)
-        except ValueError as error:
-            file.bad.append(BadLine(record.line, place, str(error)))
-        return None
-
-    def days(self, file: CsvFile, record: Record,
-             is_inclusive: bool) -> Optional[tuple[datetime.date, datetime.date]]:
+    def days(self, record: Record, is_inclusive: bool) -> tuple[datetime.date, datetime.date]:
         place = len(self.kinds)
         start, end = (cell.strip() for cell in (*record.cells[place:place + 2], '')[:2])
-        try:
-            if len(record.cells) == place + 1:
-                found = RANGE.fullmatch(start)
-                if not found:
-                    raise ValueError(f'{cells.shown(start)} is no range [FIRST DAY,END)')
-                start, end = found.groups()
-            first = cells.date(FIRST_DAY if start in STARTS else start, DATE)
-            last = cells.date(LAST_DAY if end in ENDS else end, DATE)
-            if is_inclusive and last < cells.LAST_DAY:
-                last = type(last).fromordinal(last.toordinal() + 1)
-            if first >= last:
-                raise ValueError(f'the period from {first} ends on {last}')
-            return first, last
-        except ValueError as error:
-            file.bad.append(BadLine(record.line, place, str(error)))
-        return None
+        if len(record.cells) == place + 1:
+            found = RANGE.fullmatch(start)
+            if not found:
+                raise ValueError(f'{cells.shown(start)} is no range [FIRST DAY,END)')
+            start, end = found.groups()
+        first = cells.date(FIRST_DAY if start in STARTS else start, DATE)
+        last = cells.date(LAST_DAY if end in ENDS else end, DATE)
+        if is_inclusive and last < cells.LAST_DAY:
+            last += datetime.timedelta(1)
+        if first >= last:
+            raise ValueError(f'the period from {first} ends on {last}')
+        return first, last
 
-    def statements(self, rows: list[JudgedRow]) -> Iterator[str]:
+    def statements(self, rows: list[Fact]) -> Iterator[str]:
         """The statements that make the table and fill it."""
         types = {'VARCHAR': f'VARCHAR({LONGEST})'}
         columns = ', '.join(f'{name} {types.get(kind, kind)}'
@@ -117,9 +102,7 @@ class JudgedTable:
         [made] = judge(create)
         assert isinstance(made.tree, Create)
         table = Table(made.tree)
-        yield from StatementWriter(table).inserts(in_columns(table, [
-            Fact(number, '', (number,), tuple(values), start, end)
-            for number, (values, start, end) in enumerate(rows, 1)]))
+        yield from StatementWriter(table).inserts(in_columns(table, rows))
 
     def queries(self, text: str) -> Iterator[str]:
         """The two queries, for the one of a statement `VALIDTIME query`."""

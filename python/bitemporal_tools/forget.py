@@ -21,39 +21,35 @@ the cause is reported; and 2 if a file can't be read or written, FILE names what
 NEW.store exists already.
 """
 import argparse
-import os
-import tempfile
 from collections.abc import Iterator, Sequence
 from typing import Optional
 
-from bitemporal_tools import command_line
+from bitemporal_tools import command_line, options
 from bitemporal_tools.command_line import Fault, counted, read_text, write_output
 from bitemporal_tools.history import moment_named
 from bitemporal_tools.reports.records import BadRecord, record, records
 from bitemporal_tools.stores import reading, writing
 from bitemporal_tools.stores.history_files import BadCell, reader_of
 from bitemporal_tools.stores.reading import Store, Version
-from bitemporal_tools.stores.spelling import FIRST_MOMENT, parts_of
+from bitemporal_tools.stores.spelling import FIRST_MOMENT
+from bitemporal_tools.stores.states import Values
 from bitemporal_tools.stores.tables import Table
 
 BEFORE, KEYS = 'before', 'keys'
 
 
-class Values:
+class Lists(Values):
     """Lists of values of some columns of a table, and whether a version has one of them."""
 
     def __init__(self, table: Table, columns: Sequence[str], lists: set[bytes]) -> None:
-        self.places, self.lists = table.places(columns), lists
-
-    def of(self, version: Version) -> bytes:
-        parts = parts_of(version.values)
-        return b''.join([parts[place] for place in self.places])
+        super().__init__(table, columns)
+        self.lists = lists
 
     def has(self, version: Version) -> bool:
         return self.of(version) in self.lists
 
 
-def values_of_file(store: Store, path: str) -> tuple[int, Values]:
+def values_of_file(store: Store, path: str) -> tuple[int, Lists]:
     """The number of the table that a file names, and the values in its lines."""
     try:
         names, *lines = records(read_text(path).replace('\r\n', '\n'))
@@ -78,7 +74,7 @@ def values_of_file(store: Store, path: str) -> tuple[int, Values]:
             lists.add(b''.join([read(cell) for read, cell in zip(readers, cells)]))
         except BadCell as why:
             raise Fault(f'{path}: record {line}: {why}') from None
-    return number, Values(table, columns, lists)
+    return number, Lists(table, columns, lists)
 
 
 class Forgetting:
@@ -86,7 +82,7 @@ class Forgetting:
 
     def __init__(self, store: Store, before: int, files: Sequence[str]) -> None:
         self.store, self.before = store, before
-        self.values: list[list[Values]] = [[] for _ in store.tables]
+        self.values: list[list[Lists]] = [[] for _ in store.tables]
         for path in files:
             number, values = values_of_file(store, path)
             self.values[number - 1].append(values)
@@ -107,7 +103,7 @@ class Forgetting:
         table = self.store.tables[number - 1]
         if not self.values[number - 1]:
             return
-        keys = Values(table, table.key, set())
+        keys = Values(table, table.key)
         gone, kept = set[bytes](), set[bytes]()
         for version in self.store.versions(number):
             (gone if self.cause(number, version) == KEYS else kept).add(keys.of(version))
@@ -117,7 +113,7 @@ class Forgetting:
                 if reference.parent == table.name:
                     order = [reference.columns[reference.parent_columns.index(name)]
                              for name in table.key]
-                    self.values[place].append(Values(child, order, gone))
+                    self.values[place].append(Lists(child, order, gone))
 
     def kept(self) -> Iterator[writing.Numbered]:
         """The versions that stay. What is removed is counted."""
@@ -137,35 +133,26 @@ class Forgetting:
         return ''.join(map(record, rows))
 
 
-def forget(store: Store, options: argparse.Namespace, new: str) -> str:
+def forget(store: Store, wanted: argparse.Namespace, new: str) -> str:
     """Makes the new store, and gives the journal."""
-    before = moment_named(options.before) if options.before else FIRST_MOMENT
+    before = moment_named(wanted.before) if wanted.before else FIRST_MOMENT
     if before > store.clock:
-        raise Fault(f'--before {options.before} is after the moment of the store\'s clock')
-    forgetting = Forgetting(store, before, options.keys)
+        raise Fault(f'--before {wanted.before} is after the moment of the store\'s clock')
+    forgetting = Forgetting(store, before, wanted.keys)
     writing.make(new, store.path, store.clock, store.tables, forgetting.kept())
     return forgetting.journal()
 
 
 def main(arguments: Sequence[str]) -> int:
     parser = command_line.parser('forget', __doc__, 'STORE --to NEW.store [OPTIONS]')
-    parser.add_argument('store', metavar='STORE')
-    parser.add_argument('--to', metavar='NEW.store', help='the store that is made')
-    parser.add_argument('--before', metavar='MOMENT', help='drop what ended by then')
-    parser.add_argument('--keys', metavar='FILE', action='append', default=[],
-                        help='drop all of these keys')
-    parser.add_argument('--dry-run', action='store_true',
-                        help='tell what would go, and leave no store')
-    options = parser.parse_args(arguments)
-    if not options.before and not options.keys:
+    options.add(parser, {'STORE': '', '--to NEW.store': 'the store that is made',
+                         '--before MOMENT': 'drop what ended by then'})
+    options.add(parser, {'--keys FILE': 'drop all of these keys'}, action='append', default=[])
+    options.add(parser, {'--dry-run': 'tell what would go, and leave no store'})
+    wanted = parser.parse_args(arguments)
+    if not wanted.before and not wanted.keys:
         raise Fault('--before MOMENT or --keys FILE says what goes')
-    if not options.to and not options.dry_run:
-        raise Fault('--to NEW.store names the store that is made')
-    with reading.opened(options.store) as store:
-        if options.dry_run:
-            with tempfile.TemporaryDirectory() as folder:
-                journal = forget(store, options, os.path.join(folder, 'store'))
-        else:
-            journal = forget(store, options, options.to)
-    write_output(journal)
+    with writing.place(wanted) as new, reading.opened(wanted.store, wanted.to or '') as store:
+        journal = forget(store, wanted, new)
+    write_output(journal, '' if wanted.dry_run else wanted.to)
     return 0

@@ -1,7 +1,5 @@
 """Says what changed in a table of a store, and when.
 
-    tools/history STORE TABLE [--key COLUMN=VALUE ..] [--since MOMENT] [--csv | --raw]
-
 There is a line for each moment, key and stretch of days on which something differed after the
 moment: the moment, the columns of the key, the first day and the end, and what changed: `new:` with
 the values, `COLUMN: OLD -> NEW`, or `gone:` with the values that no longer hold.
@@ -11,10 +9,11 @@ STORE is never written. The exit status is 0, or 2 if STORE can't be read or has
 import sys
 from collections.abc import Iterator, Sequence
 
-from bitemporal_tools import command_line
-from bitemporal_tools.command_line import Fault, counted, write_output
+from bitemporal_tools import command_line, options
+from bitemporal_tools.command_line import Fault, counted, pairs, write_output
+from bitemporal_tools.reports.answer_texts import aligned
 from bitemporal_tools.reports.records import record
-from bitemporal_tools.reports.shown import for_spreadsheet, for_terminal, width
+from bitemporal_tools.reports.shown import for_spreadsheet, for_terminal
 from bitemporal_tools.stores import reading
 from bitemporal_tools.stores.reading import Store
 from bitemporal_tools.stores.spelling import (FIRST_MOMENT, cell_of, day_text, moment_of,
@@ -47,14 +46,11 @@ class Shown:
         for segment in segments(change):
             before, after = (list(map(self.cells, values))
                              for values in (segment.before, segment.after))
-            if not any(map(self.is_wanted, before + after)):
+            if not any(self.wanted.items() <= cells.items() for cells in before + after):
                 continue
             for key, what in self.changes(before, after):
                 yield [moment_text(moment), *key, day_text(segment.start), day_text(segment.end),
                        what]
-
-    def is_wanted(self, cells: dict[str, str]) -> bool:
-        return all(cells[name] == value for name, value in self.wanted.items())
 
     def changes(self, before: list[dict[str, str]], after: list[dict[str, str]]) \
             -> Iterator[tuple[list[str], str]]:
@@ -87,25 +83,6 @@ def history(store: Store, name: str, wanted: dict[str, str], since: int) -> Iter
                 yield from shown.rows(moment, change)
 
 
-def as_table(rows: Sequence[Sequence[str]]) -> str:
-    """Aligned text, with a rule under the names."""
-    cells = [[for_terminal(cell) for cell in row] for row in rows]
-    widths = [max(map(width, column)) for column in zip(*cells)]
-    cells.insert(1, ['-' * room for room in widths])
-    return ''.join('  '.join(cell + ' ' * (room - width(cell)) for cell, room in zip(
-        row, widths)).rstrip() + '\n' for row in cells)
-
-
-def wanted_values(words: Sequence[str]) -> dict[str, str]:
-    wanted = {}
-    for word in words:
-        name, sign, value = word.partition('=')
-        if not sign:
-            raise Fault(f'{word!r} is not of the form COLUMN=VALUE')
-        wanted[name.strip().upper()] = value
-    return wanted
-
-
 def moment_named(text: str) -> int:
     """The moment of a word of the command line. A date alone is its first moment."""
     moment = moment_of(text if len(text) > len('YYYY-MM-DD') else f'{text} 00:00:00')
@@ -116,26 +93,22 @@ def moment_named(text: str) -> int:
 
 def main(arguments: Sequence[str]) -> int:
     parser = command_line.parser('history', __doc__, 'STORE TABLE [OPTIONS]')
-    parser.add_argument('store', metavar='STORE')
-    parser.add_argument('table', metavar='TABLE')
-    parser.add_argument('--key', metavar='COLUMN=VALUE', action='append', default=[],
-                        help='only rows with this value, of as many columns as are named')
-    parser.add_argument('--since', metavar='MOMENT',
-                        help='only what was recorded at this moment or later')
-    parser.add_argument('--csv', action='store_true',
-                        help='CSV in place of an aligned table; no cell of it is a formula')
-    parser.add_argument('--raw', action='store_true', help='CSV with each text as it is')
-    options = parser.parse_args(arguments)
-    since = moment_named(options.since) if options.since else FIRST_MOMENT
-    with reading.opened(options.store) as store:
-        rows = history(store, options.table.upper(), wanted_values(options.key), since)
-        if options.raw or options.csv:
+    options.add(parser, {'STORE': '', 'TABLE': '', '--raw': 'CSV with each text as it is',
+                         '--csv': 'CSV in place of an aligned table; no cell of it is a formula',
+                         '--since MOMENT': 'only what was recorded at this moment or later'})
+    options.add(parser, {'--key COLUMN=VALUE': 'only rows with this value, of as many columns as'
+                                               ' are named'}, action='append', default=[])
+    wanted = parser.parse_args(arguments)
+    since = moment_named(wanted.since) if wanted.since else FIRST_MOMENT
+    with reading.opened(wanted.store) as store:
+        rows = history(store, wanted.table.upper(), pairs(wanted.key, '--key'), since)
+        if wanted.raw or wanted.csv:
             for row in rows:
-                line = record(row if options.raw else map(for_spreadsheet, row))
+                line = record(row if wanted.raw else map(for_spreadsheet, row))
                 sys.stdout.buffer.write(line.encode('utf-8'))
             sys.stdout.buffer.flush()
         else:
-            lines = list(rows)
-            write_output(f'{options.table.upper()}: {counted(len(lines) - 1, "change")}\n'
-                         f'{as_table(lines)}')
+            lines = [list(map(for_terminal, row)) for row in rows]
+            write_output(f'{wanted.table.upper()}: {counted(len(lines) - 1, "change")}\n'
+                         f'{aligned(lines)}')
     return 0

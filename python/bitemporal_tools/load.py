@@ -35,6 +35,7 @@ Without --table the table is one that SCRIPT makes.
 
 Nothing is written if a line is bad. Each bad line is reported with file, line and column. A file
 that is more than a script of 4,194,304 bytes becomes several, NAME-1.sql and so on, by --output.
+Those of NAME.sql that an earlier load left are removed.
 
 The exit status is 0; 1 if a line is bad or late; 2 if the command line or a file is wrong.
 """
@@ -81,19 +82,25 @@ def without_equals(facts: Sequence[Fact]) -> list[Fact]:
                  for fact in reversed(facts)}.values())[::-1]
 
 
-def write(texts: list[str], wanted: argparse.Namespace) -> None:
-    """Writes the scripts, or prints the only one."""
+def write(texts: list[str], wanted: argparse.Namespace) -> list[str]:
+    """Writes the scripts, or prints the only one, and removes those of an earlier load that had
+    more of them. Gives what it removed."""
     if wanted.output is None:
         if len(texts) > 1:
             raise Fault(f'this is more than one script of 4,194,304 bytes ({len(texts)}): name a'
                         ' file by --output')
         command_line.write_output(texts[0])
-        return
+        return []
     folder, name = os.path.split(wanted.output)
     stem, ending = os.path.splitext(name)
-    names = [name] if len(texts) == 1 else [f'{stem}-{number}{ending or ".sql"}'
-                                            for number in range(1, len(texts) + 1)]
+    numbered = (f'{stem}-{number}{ending or ".sql"}' for number in itertools.count(1))
+    names = [name] if len(texts) == 1 else list(itertools.islice(numbered, len(texts)))
     command_line.write_files(folder or '.', dict(zip(names, texts)))
+    others = itertools.takewhile(os.path.exists, (os.path.join(folder, it) for it in numbered))
+    old = [wanted.output] * (len(texts) > 1 and os.path.isfile(wanted.output)) + list(others)
+    for path in old:
+        os.unlink(path)
+    return old
 
 
 def tell(sentences: Iterable[str]) -> None:
@@ -171,18 +178,14 @@ class Load:
             statements = self.changes.statements(self.changes.completed(facts, stored))
             return [(at, statements)] if statements else []
         lacking, later = self.changes.catch_up(facts, stored, self.clock)
-        if self.wanted.late != 'now':
-            self.tell_late(fact for of_key in lacking.values() for fact in of_key
-                           if fact.moment < self.clock)
+        late = {fact.line for of_key in lacking.values() for fact in of_key
+                if fact.moment < self.clock and self.wanted.late != 'now'}
+        self.has_late = bool(late)
+        self.file.bad += [BadLine(line, self.mapping.recorded, 'late: before the clock'
+                                  f' {self.clock} of the store') for line in sorted(late)]
         statements = self.changes.statements(lacking)
         groups = [(self.clock, statements)] if statements else []
         return groups + self.changes.groups(later, at)
-
-    def tell_late(self, late: Iterable[Fact]) -> None:
-        for line in sorted({fact.line for fact in late}):
-            self.has_late = True
-            self.file.bad.append(BadLine(
-                line, self.mapping.recorded, f'late: before the clock {self.clock} of the store'))
 
     def hints(self) -> Iterator[str]:
         """Sentences on what bad lines may mean."""
@@ -227,14 +230,11 @@ def load(job: Load) -> int:
         groups = sorted(later + groups, key=lambda group: group[0])
     statements = list(flattened(groups))
     texts = list(script_writer.scripts(head, statements))
-    write(texts, wanted)
+    old = write(texts, wanted)
     tell([f'{counted(job.count, "row")}, {counted(len(statements), "statement")} after the head,'
-          f' {counted(len(texts), "script")}', *job.notes(own)])
+          f' {counted(len(texts), "script")}', *(f'{path} of an earlier load is removed'
+                                                 for path in old), *job.notes(own)])
     return 0
-
-
-def is_there(store: str | None) -> bool:
-    return store is not None and os.path.exists(store)
 
 
 def judge_options(wanted: argparse.Namespace) -> None:
@@ -252,7 +252,7 @@ def judge_options(wanted: argparse.Namespace) -> None:
         raise Fault('--recorded-to COLUMN is about --recorded COLUMN, and not about --record')
     if wanted.complete and (wanted.recorded or not wanted.store):
         raise Fault('--complete is about --store STORE, and a file without --recorded')
-    if not (wanted.guess or wanted.table or wanted.merge or is_there(wanted.store)):
+    if not (wanted.guess or wanted.table or wanted.merge or os.path.exists(wanted.store or '')):
         store = f'{wanted.store} is not there yet, and ' if wanted.store else ''
         raise Fault(f'{store}--table is missing: the script that makes the table (--guess prints a'
                     ' first guess of one)')
@@ -264,17 +264,16 @@ def main(words: Sequence[str]) -> int:
     judge_options(wanted)
     file = CsvFile(wanted.file, wanted.delimiter, wanted.encoding)
     if wanted.guess:
-        from bitemporal_tools.loading import guess
+        from bitemporal_tools.loading.guess import Guess
         if file.bad:
             return tell_bad(file)
-        command_line.write_output(guess.create_table(file, wanted))
+        command_line.write_output(Guess(file, wanted).text())
         return 0
-    if not is_there(wanted.store):
-        job = Load(wanted, file, None)
-        status = load(job)
+    if not os.path.exists(wanted.store or ''):
+        status = load(Load(wanted, file, None))
     else:
-        from bitemporal_tools.loading.stored_rows import opened
-        with opened(wanted.store) as store:
-            job = Load(wanted, file, store)
-            status = load(job)
+        from bitemporal_tools.loading.stored_rows import LoadedStore
+        from bitemporal_tools.stores import reading
+        with reading.opened(wanted.store) as store:
+            status = load(Load(wanted, file, LoadedStore(store)))
     command_line.leave(status)

@@ -25,5 +25,6 @@ def main(arguments: Sequence[str]) -> int:
     tables = [listed.table for listed in dump.tables]
     writing.make(options.to, '', dump.clock, tables, dump.versions())
     count = sum(listed.versions for listed in dump.tables)
-    write_output(f'{options.to}: {counted(len(tables), "table")}, {counted(count, "version")}\n')
+    write_output(f'{options.to}: {counted(len(tables), "table")}, {counted(count, "version")}\n',
+                 options.to)
     return 0

@@ -39,8 +39,9 @@ import tempfile
 from collections.abc import Iterable, Sequence
 from typing import Optional
 
-from bitemporal_tools import command_line, program
-from bitemporal_tools.command_line import Fault, counted
+from bitemporal_tools import command_line
+from bitemporal_tools.command_line import counted
+from bitemporal_tools.engine_session import ran
 from bitemporal_tools.explanation.explaining import Explanation
 from bitemporal_tools.explanation.moments import WITHOUT_AT, first_without_at, may_replace
 from bitemporal_tools.reports.listing import catalog_of
@@ -58,13 +59,8 @@ NOT_KNOWN = 'bitemporal: how many versions changes replaced or deleted at their 
 def printed(called: str, words: Sequence[str], given: bytes) -> tuple[int, bytes]:
     """The status and the output of the program by one of its two names. Standard error is its
     own."""
-    path = program.path(called)
-    try:
-        run = subprocess.run([called, *words], executable=path, input=given,
-                             stdout=subprocess.PIPE, check=False)
-    except OSError as error:
-        raise Fault(f'cannot run {path}: {error.strerror}') from None
-    return run.returncode, run.stdout
+    done = ran(called, words, given, stderr=None)
+    return done.returncode, done.stdout
 
 
 def tables_of(store: str) -> Catalog:
@@ -84,9 +80,8 @@ def told_of_replaced(script: bytes) -> list[str]:
         with scratch(GROWTH * len(script)) as folder:
             file = pathlib.Path(folder, 'script.sql')
             file.write_bytes(script)
-            run = subprocess.run(['bitemporal_file', os.path.join(folder, 'store'), file],
-                                 executable=program.path('bitemporal_file'), check=False,
-                                 stdout=subprocess.DEVNULL, stderr=subprocess.PIPE)
+            run = ran('bitemporal_file', [os.path.join(folder, 'store'), file],
+                      stdout=subprocess.DEVNULL)
     except OSError as error:
         return [f'{NOT_KNOWN}: {error.strerror}']
     told = [line.partition(': ')[2] for line in run.stderr.decode('utf-8').splitlines()]

@@ -1,6 +1,6 @@
 """A session over a store on a terminal: a prompt, answers as tables, and refusals explained.
 
-    tools/session STORE [--audit] [--stop] [--now | --script-clock | --read-only]
+    tools/session STORE [--audit] [--stop] [[--now] [--clock-ahead] | --script-clock | --read-only]
 
 ./bitemporal_file STORE starts this if it is called on a terminal and names no script. Statements
 end with a semicolon, and each is run when its line is sent; what has none at the end is not run. An
@@ -15,17 +15,15 @@ is noted then, once.
     Ctrl-C   drops what is written and not yet sent. While a statement runs, it says so; a second
              one kills the program, and the store is then as before the statement or after it
 
-STORE, --audit and --stop are as for bitemporal_file, whose exit status this has: 0; 1 if a
-statement was refused; 3 if an audit did not agree; 2 in a fault, which is reported; and 130
+STORE, --audit, --stop and --clock-ahead are as for bitemporal_file, whose exit status this has: 0;
+1 if a statement was refused; 3 if an audit did not agree; 2 in a fault, which is reported; and 130
 if it was killed.
 """
-import os
 import pathlib
 import re
 import signal
-import subprocess
 import sys
-from collections.abc import Sequence
+from collections.abc import Callable, Sequence
 from typing import Optional
 
 try:  # the prompt has its keys and its history by it
@@ -33,16 +31,16 @@ try:  # the prompt has its keys and its history by it
 except ImportError:
     pass
 
-from bitemporal_tools import command_line, program
+from bitemporal_tools import command_line, options, program
+from bitemporal_tools.command_line import counted
+from bitemporal_tools.engine_session import NAME, Ended, EngineSession, ran
 from bitemporal_tools.explanation import bad_tokens
 from bitemporal_tools.explanation.explaining import Explainer
 from bitemporal_tools.explanation.moments import WITHOUT_AT
 from bitemporal_tools.explanation.report import Refusal
 from bitemporal_tools.reports.answer_tables import Table
 from bitemporal_tools.reports.answer_texts import as_table
-from bitemporal_tools.command_line import counted
 from bitemporal_tools.reports.listing import catalog_of
-from bitemporal_tools.reports.records import records
 from bitemporal_tools.sql.catalog import Catalog
 from bitemporal_tools.sql.literals import FIRST_MOMENT
 from bitemporal_tools.sql.lexis import decoded, lexed, pieces
@@ -51,7 +49,6 @@ from bitemporal_tools.sql.refusals import Refused
 from bitemporal_tools.sql.script import Statement
 from bitemporal_tools.sql.tree import At
 
-NAME = 'bitemporal_file'
 PROMPT, MORE = 'bitemporal> ', '       ...> '
 GREETING = 'Statements end with a semicolon. \\? shows help, \\q ends the session.'
 RUNS_ON = '\nThe statement runs on. Ctrl-C once more kills the program.'
@@ -61,7 +58,7 @@ AT_REFUSED = """    Cause: The session runs at the system's time, and the moment
     What to do: Leave the AT out, or start the session with --script-clock."""
 KILLED = 130
 NO_COMMAND = '10'  # the refusal of a line that has none
-READ_ONLY = '--read-only'
+READ_ONLY, CLOCK_AHEAD = '--read-only', '--clock-ahead'
 # The tables of a store are listed before the session, to explain refusals by, if that is quick.
 LARGEST_LISTED = 16 * 1024 * 1024
 
@@ -72,8 +69,7 @@ def listed(file: str, store: str, words: Sequence[str]) -> Catalog:
     path = pathlib.Path(store)
     if not path.exists() or path.is_file() and path.stat().st_size > LARGEST_LISTED:
         return Catalog()
-    found = subprocess.run([NAME, store, '--tables', *words], executable=file, check=False,
-                           stdin=subprocess.DEVNULL, stdout=subprocess.PIPE)
+    found = ran(NAME, [store, '--tables', *words], path=file, stderr=None)
     if found.returncode:
         sys.exit(found.returncode)
     return catalog_of(found.stdout.decode('utf-8'))
@@ -84,82 +80,62 @@ class Session:
 
     def __init__(self, file: str, store: str, words: Sequence[str]) -> None:
         self.catalog = listed(file, store, [word for word in words if word == READ_ONLY])
-        # A process group of its own: Ctrl-C is for this tool alone.
-        self.program = subprocess.Popen([NAME, store, *words], executable=file,
-                                        stdin=subprocess.PIPE, stdout=subprocess.PIPE,
-                                        start_new_session=True)
-        assert self.program.stdin and self.program.stdout
-        self.input, self.output = self.program.stdin, self.program.stdout
+        self.engine = EngineSession([store, *words], file)
         self.audits, self.stops = '--audit' in words, '--stop' in words
         self.is_timed = '--now' in words
         self.is_warned = False
         # Whether a change may be recorded at the first moment of all, and nothing was said of it.
         self.is_unsaid = not self.is_timed
 
-    def next_record(self) -> list[str]:
-        """The next record of the report. EOFError if the program has ended."""
-        text = b''
-        while not text or text.count(b'"') % 2:
-            line = self.output.readline()
-            if not line:
-                raise EOFError
-            text += line
-        return next(records(text.decode('utf-8')))
-
     def interrupted(self, *_: object) -> None:
         """Ctrl-C while a statement runs."""
         if self.is_warned:
-            os.killpg(self.program.pid, signal.SIGKILL)
+            self.engine.process.kill()
         else:
             self.is_warned = True
             print(RUNS_ON, flush=True)
 
-    def send(self, data: bytes) -> None:
-        try:
-            self.input.write(data)
-            self.input.flush()
-        except BrokenPipeError:
-            raise EOFError from None
-
-    def run(self, part: str) -> None:
-        """Sends a part, and shows what the program reports of it."""
-        part = part.lstrip()
-        data = part.encode('utf-8', 'surrogateescape')
+    def run(self, send: Callable[[str], None], text: str) -> None:
+        """Sends a text, a part or a command, and shows what the program reports of it."""
         self.is_warned = False
         before = signal.signal(signal.SIGINT, self.interrupted)
         try:
-            self.send(data)
-            statement, refused = read_part(data)
-            if statement is not None or refused is not None:
-                self.show(part, statement, refused)
+            send(text)
         finally:
             signal.signal(signal.SIGINT, before)
+
+    def part(self, text: str) -> None:
+        """A statement, as far as it is one."""
+        part = text.lstrip()
+        data = part.encode('utf-8', 'surrogateescape')
+        self.engine.send(data)
+        statement = refused = None
+        try:
+            found = [Statement(0, piece) for piece in pieces(lexed(decoded(data)))]
+            statement = found[0] if found else None
+        except Refused as why:
+            refused = why
+        if statement is not None or refused is not None:
+            self.show(part, statement, refused)
 
     def command(self, line: str) -> None:
-        """Sends a command on a line of its own, and shows what the program reports of it."""
-        self.is_warned = False
-        before = signal.signal(signal.SIGINT, self.interrupted)
-        try:
-            self.send(f'\n{line}\n'.encode('utf-8', 'surrogateescape'))
-            while (record := self.next_record())[0] != 'command':
-                print(','.join(record))
-            _, word, outcome, *cause = record
-            if outcome == 'refused':
-                hint = '; .help lists the commands' if cause[0] == NO_COMMAND else ''
-                print(f'.{word}: {" ".join(cause)}'.rstrip() + hint)
-            elif word == 'backup':
-                print('done: backup')
-        finally:
-            signal.signal(signal.SIGINT, before)
+        """A command on a line of its own."""
+        *records, (_, word, outcome, *cause) = self.engine.command(line)
+        print(''.join(','.join(record) + '\n' for record in records), end='')
+        if outcome == 'refused':
+            hint = '; .help lists the commands' if cause[0] == NO_COMMAND else ''
+            print(f'.{word}: {" ".join(cause)}'.rstrip() + hint)
+        elif word == 'backup':
+            print('done: backup')
 
     def show(self, part: str, statement: Optional[Statement],
              refused: Optional[Refused]) -> None:
         """Shows the outcome of a statement."""
-        kind, number, *fields = self.next_record()
+        kind, number, *fields = self.engine.record()
         if kind == 'refused':
             self.show_refusal(part, statement, refused, number, fields)
             if self.stops:
-                raise EOFError
+                raise Ended
         elif kind == 'done':
             what, count = fields
             print(f'done: {what}' + ('' if what in ('at', 'create') else
@@ -169,27 +145,19 @@ class Session:
         else:
             self.show_answer(number, int(fields[1]))
             if self.audits and kind == 'answer':
-                print('audit: ' + ' '.join(self.next_record()[2:]).rstrip())
+                print('audit: ' + ' '.join(self.engine.record()[2:]).rstrip())
 
     def note(self, what: str) -> None:
         """Notes the first change that is recorded at the first moment of all, since no AT stands
         before it."""
         if self.is_unsaid and what != 'create':
             self.is_unsaid = False
-            if what != 'at' and self.clock() == FIRST_MOMENT:
+            if what != 'at' and self.engine.command('.clock')[0][1] == FIRST_MOMENT:
                 print(f'note: {WITHOUT_AT}')
 
-    def clock(self) -> str:
-        """The clock's moment, as the program says it between two statements."""
-        moment = ''
-        self.send(b'\n.clock\n')
-        while (record := self.next_record())[0] != 'command':
-            moment = record[1]
-        return moment
-
     def show_answer(self, number: str, count: int) -> None:
-        columns = self.next_record()[2:]
-        rows = [self.next_record()[2:] for _ in range(count)]
+        columns = self.engine.record()[2:]
+        rows = [self.engine.record()[2:] for _ in range(count)]
         if columns[-2:] == ['held', 'absent']:
             columns, rows = columns[:-2], [row[:-2] for row in rows]
         print(as_table(Table(int(number), '', '', columns, rows)), end='')
@@ -213,27 +181,8 @@ class Session:
 
     def end(self) -> int:
         """Ends the input, and gives the status of the program."""
-        try:
-            self.input.close()
-        except BrokenPipeError:
-            pass
-        self.output.read()
-        status = self.program.wait()
+        status = self.engine.close(float('inf'))
         return status if status >= 0 else KILLED
-
-
-def read_part(data: bytes) -> tuple[Optional[Statement], Optional[Refused]]:
-    """The statement of a part's bytes and the refusal of the part, if it has them."""
-    try:
-        found = [Statement(0, piece) for piece in pieces(lexed(decoded(data)))]
-    except Refused as refused:
-        return None, refused
-    return (found[0] if found else None), None
-
-
-def is_blank(text: str) -> bool:
-    """Whether lines are blanks and comments alone."""
-    return not re.sub('--[^\n]*', '', text).strip()
 
 
 def talk(session: Session) -> None:
@@ -255,38 +204,37 @@ def talk(session: Session) -> None:
                 return
             print((__doc__ or '').split('\n\n', 2)[2].rstrip())
             continue
-        if line.startswith('.') and is_blank(held):
-            session.command(line)
+        # A command may follow blanks and comments alone.
+        if line.startswith('.') and not re.sub('--[^\n]*', '', held).strip():
+            session.run(session.command, line)
             held = ''
             continue
         *parts, held = parts_of(held + line + '\n')
         for part in parts:
-            session.run(part)
+            session.run(session.part, part)
     if held.strip():  # the program says that it is not run
-        session.send(held.encode('utf-8', 'surrogateescape'))
+        session.engine.send(held.encode('utf-8', 'surrogateescape'))
 
 
 def main(arguments: Sequence[str]) -> int:
     parser = command_line.parser('session', __doc__, 'STORE [OPTIONS]')
-    parser.add_argument('store', metavar='STORE')
-    parser.add_argument('--audit', action='store_true', help='check each answer day by day')
-    parser.add_argument('--stop', action='store_true', help='end at the first refused statement')
-    clock = parser.add_mutually_exclusive_group()
-    clock.add_argument('--now', action='store_true',
-                       help="record changes at the system's time, as without a flag")
-    clock.add_argument('--script-clock', action='store_true',
-                       help='record them at the moment of the last AT')
-    clock.add_argument(READ_ONLY, action='store_true',
-                       help='write nothing: queries alone are answered')
-    options = parser.parse_args(arguments)
-    words = [word for word in ('--audit', '--stop') if vars(options)[word[2:]]]
-    if options.read_only:
+    options.add(parser, {'STORE': '', '--audit': 'check each answer day by day',
+                         '--stop': 'end at the first refused statement'})
+    options.add(parser.add_mutually_exclusive_group(), {
+        '--now': "record changes at the system's time, as without a flag",
+        '--script-clock': 'record them at the moment of the last AT',
+        READ_ONLY: 'write nothing: queries alone are answered'})
+    options.add(parser, {CLOCK_AHEAD: "run over a store whose clock is ahead of the system's time"})
+    wanted = parser.parse_args(arguments)
+    words = [word for word in ('--audit', '--stop', CLOCK_AHEAD)
+             if vars(wanted)[word[2:].replace('-', '_')]]
+    if wanted.read_only:
         words.append(READ_ONLY)
-    elif not options.script_clock:
+    elif not wanted.script_clock:
         words.append('--now')
-    session = Session(program.launcher(NAME), options.store, words)
+    session = Session(program.launcher(NAME), wanted.store, words)
     try:
         talk(session)
-    except EOFError:
+    except Ended:
         pass
     return session.end()

@@ -1,42 +1,29 @@
 """Draws a report as time lines.
 
     ./bitemporal run x.sql | tools/timeline x.sql > x.html
-    tools/timeline SCRIPT [REPORT] [--only WHICH] [--svg | --png | --text] [--by COLUMN]
-                   [--count] [--sum COLUMNS] [--title TEXT] [--most N] [--page N]
 
-REPORT is what `run` printed for SCRIPT; if it is left out or `-`, it is standard input. With
---run SCRIPT is run for it, and with --store STORE over a store, which it may not change. Printed is
-a web page with a picture of each answer and each list of versions. It is one file, without a script
-and with nothing from elsewhere. --svg and --png print one picture alone; PNG is made by a converter
-that is installed, such as rsvg-convert.
+Printed is a web page with a picture of each answer and each list of versions. It is one file,
+without a script and with nothing from elsewhere.
 
 An answer has a line for each list of values and a bar for each row. The dot at its start is the
 witness `held`, the ring before it the witness `absent`. A triangle is an end that is open. With
 --by DEPT, or --lane DEPT, it has a lane for each DEPT instead, with the other values in the bars;
 rows that share a day are below each other.
 
---count and --sum COLUMNS draw the totals of an answer as curves, as tools/totals counts them: one
-for each value of --by.
+--count and --sum draw totals as tools/totals counts them, a curve for each value of --by.
 
 Versions of a stored query are rectangles over two axes: days go to the right, moments of recording
 upwards. Each value of a column has a plane of its own: of the first column of the key, or of --by.
 
 --only takes these statements and draws them in one picture over one axis of days. There a red line
 through the versions is the moment of a query's AS OF: what it crosses is what the query saw.
-
-A picture has at most 60 lines, or --most N; more of them are drawn as further pictures. --svg and
---png draw one page: the first, or --page N.
-
-The exit status is 0; 1 if the report has a refused statement, written to standard error, or an
-answer that is asked for is missing; and 2 if the command line or a file is wrong, or the report
-isn't the script's.
 """
 import argparse
 import pathlib
 from collections.abc import Sequence
 from typing import Optional, Union
 
-from bitemporal_tools import command_line
+from bitemporal_tools import command_line, options
 from bitemporal_tools.command_line import Fault, counted
 from bitemporal_tools.pictures import drawings, letters, page, png
 from bitemporal_tools.pictures.canvas import STYLE
@@ -44,24 +31,20 @@ from bitemporal_tools.reports import asked, report
 from bitemporal_tools.reports.answer_tables import by_name
 
 
-def options(words: Sequence[str]) -> argparse.Namespace:
-    parser = command_line.parser('timeline', __doc__, 'SCRIPT [REPORT] [OPTIONS]')
-    asked.add_options(parser)
-    parser.add_argument('--only', metavar='WHICH',
-                        help='these statements, by number or name, in one picture')
-    form = parser.add_mutually_exclusive_group()
-    form.add_argument('--svg', action='store_true', help='print one picture alone')
-    form.add_argument('--png', action='store_true', help='print one picture as PNG')
-    form.add_argument('--text', action='store_true', help='the answers in letters, for a terminal')
-    parser.add_argument('--by', '--lane', metavar='COLUMN', dest='by',
-                        help='a lane, a curve or a plane for each value of this column')
-    parser.add_argument('--count', action='store_true', help='how many rows, as a curve')
-    parser.add_argument('--sum', metavar='COLUMNS', default='', help='the sums, as curves')
-    parser.add_argument('--title', metavar='TEXT', help='above all of it')
-    parser.add_argument('--most', metavar='N', type=int, default=60,
-                        help='lines, and moments of versions, of one picture: 60')
-    parser.add_argument('--page', metavar='N', type=int, default=1,
-                        help='which page --svg and --png draw: 1')
+def wanted_of(words: Sequence[str]) -> argparse.Namespace:
+    parser = asked.parser('timeline', __doc__, {
+        **asked.OPTIONS, '--only WHICH': 'these statements, by number or name, in one picture',
+        '--by --lane COLUMN': 'a lane, a curve or a plane for each value of this column',
+        '--count': 'how many rows, as a curve', '--title TEXT': 'above all of it'},
+        'SCRIPT [REPORT] [--svg | --png | --text] [OPTIONS]')
+    options.add(parser.add_mutually_exclusive_group(), {
+        '--svg': 'print one picture alone', '--png': 'print one picture as PNG, by'
+        ' a converter that is installed, such as rsvg-convert',
+        '--text': 'the answers in letters, for a terminal'})
+    options.add(parser, {'--sum COLUMNS': 'the sums, as curves'}, default='')
+    options.add(parser, {'--most N': 'lines, and moments of versions, of one picture: 60; more'
+                ' are drawn as further pictures'}, type=int, default=60)
+    options.add(parser, {'--page N': 'which page --svg and --png draw: 1'}, type=int, default=1)
     return parser.parse_args(words)
 
 
@@ -105,7 +88,7 @@ def output(statements: Sequence[report.Statement], wanted: argparse.Namespace) -
 
 
 def main(words: Sequence[str]) -> int:
-    wanted = options(words)
+    wanted = wanted_of(words)
     if wanted.most < 1:
         raise Fault('--most: write 1 or more')
     answers, status = asked.answers('timeline', wanted)

@@ -27,14 +27,14 @@ import os
 import sys
 from collections.abc import Iterable, Sequence
 
-from bitemporal_tools import command_line, databases
+from bitemporal_tools import command_line, databases, options
 from bitemporal_tools.command_line import Fault
 from bitemporal_tools.foreign_answer import JudgedTable
 from bitemporal_tools.loading.csv_file import CsvFile
 from bitemporal_tools.loading.script_writer import scripts
 from bitemporal_tools.reports import report
 from bitemporal_tools.reports.answer_tables import name_of
-from bitemporal_tools.reports.listing import add_option, named_catalog
+from bitemporal_tools.reports.listing import TABLES, named_catalog
 from bitemporal_tools.sql.catalog import Catalog
 from bitemporal_tools.sql.literals import FIRST_MOMENT, FOREVER
 from bitemporal_tools.sql.refusals import Refused
@@ -48,26 +48,20 @@ SELECT * FROM {name}
 """
 
 
-def options(words: Sequence[str]) -> argparse.Namespace:
+def wanted_of(words: Sequence[str]) -> argparse.Namespace:
     parser = command_line.parser('versions', __doc__, 'COMMAND SCRIPT ..')
     commands = parser.add_subparsers(dest='command', metavar='COMMAND', required=True,
                                      prog=parser.prog)
     ask = commands.add_parser('ask', help='the script with queries of all versions')
-    ask.add_argument('script', metavar='SCRIPT')
-    add_option(ask)
+    options.add(ask, {'SCRIPT': '', **TABLES})
     copy = commands.add_parser('copy', help='files for another database')
-    copy.add_argument('script', metavar='SCRIPT')
-    copy.add_argument('report', metavar='REPORT', nargs='?')
+    options.add(copy, {'SCRIPT': '', '[REPORT]': '', **TABLES})
     copy.add_argument('--to', required=True, choices=list(databases.COMMANDS))
     copy.add_argument('--into', required=True, metavar='FOLDER')
-    add_option(copy)
     other = commands.add_parser('judge', help="a script that judges another's answer")
-    other.add_argument('script', metavar='SCRIPT')
-    other.add_argument('which', metavar='WHICH', help='the statement, by number or name')
-    other.add_argument('answer', metavar='ANSWER.csv')
-    other.add_argument('--inclusive-to', action='store_true',
-                       help='the end is the last day on which a row holds')
-    other.add_argument('--output', metavar='NAME.sql', help='the file to write')
+    options.add(other, {'SCRIPT': '', 'WHICH': 'the statement, by number or name', 'ANSWER.csv': '',
+                        '--inclusive-to': 'the end is the last day on which a row holds',
+                        '--output NAME.sql': 'the file to write'})
     return parser.parse_args(words)
 
 
@@ -156,5 +150,5 @@ def judge_answer(wanted: argparse.Namespace) -> int:
 
 
 def main(words: Sequence[str]) -> int:
-    wanted = options(words)
+    wanted = wanted_of(words)
     return {'ask': ask, 'copy': copy, 'judge': judge_answer}[wanted.command](wanted)

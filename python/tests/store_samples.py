@@ -10,7 +10,8 @@ import tempfile
 
 import support
 from bitemporal_tools.reports.records import records
-from bitemporal_tools.stores.spelling import Value, literal
+from bitemporal_tools.sql.literals import literal
+from bitemporal_tools.stores.spelling import Value
 
 FIRST_DAY, DAYS = datetime.date(2024, 1, 1), 40
 VALUES: dict[str, list[Value]] = {

@@ -14,8 +14,9 @@ from unittest import mock
 
 import support
 from bitemporal_tools import alter
+from bitemporal_tools.alteration import clock
 from bitemporal_tools.command_line import Fault
-from bitemporal_tools.stores import spelling
+from bitemporal_tools.stores import reading, spelling
 from folders import ROOT
 from store_samples import Random, StoreTests, answered, contents, copied_away, verified
 from test_dump import PAY, texts
@@ -28,6 +29,16 @@ BOSS = PAY.replace('AT TIMESTAMP', support.create_table(
     'DEP', 'DNO INTEGER, BOSS INTEGER', 'DNO', 'DP') + ''';
 AT TIMESTAMP''', 1) + '''INSERT INTO DEP VALUES (7, 101, DATE '2024-02-01', DATE '2024-03-01'),
  (8, 102, DATE '2024-02-01', DATE '2024-03-01'), (8, 101, DATE '2024-03-01', DATE '2024-04-01');
+'''
+
+
+# Changes at moments that have yet to come.
+AHEAD = '''AT TIMESTAMP '2962-01-01 00:00:00';
+UPDATE PAY SET CENTS = 1;
+AT TIMESTAMP '2962-01-01 00:00:00.000001';
+UPDATE EMP SET NAME = 'X';
+DELETE FROM PAY FOR PORTION OF PP FROM DATE '2024-07-01' TO DATE '9999-12-31';
+AT TIMESTAMP '2963-01-01 00:00:00';
 '''
 
 
@@ -57,9 +68,59 @@ class Alter(StoreTests):
         self.assertIn(' NAME VARCHAR(60),\n', found['tables.sql'])
         self.assertIn(' PRIMARY KEY (ENO, VALID WITHOUT OVERLAPS),\n FOREIGN KEY (ENO, PERIOD'
                       ' VALID) REFERENCES EMP (PERSON, PERIOD EP)', found['tables.sql'])
-        self.assertEqual(found['dump.csv'].splitlines()[1:],
+        self.assertEqual(found['dump.csv'].splitlines()[1:-1],
                          ['clock,2024-07-01 00:00:00', 'table,1,EMP,EMP.csv,2',
                           'table,2,PAY,PAY.csv,3'])
+
+    def test_a_clock_that_is_ahead(self) -> None:
+        """Each moment after the time of this machine becomes one of the last up to it, in order;
+        all else stays, and the program runs --now over what is made."""
+        store, new = self.made('ahead.store', PAY + AHEAD), self.path('new.store')
+        before = copied_away(store)
+        dry = self.tool('alter', store, '--clock-now', '--dry-run')[0].splitlines()
+        begun = time.time_ns() // 1000
+        *moves, last = self.tool('alter', store, '--to', new, '--clock-now')[0].splitlines()
+        ended = time.time_ns() // 1000
+        ahead, became = zip(*(line.split(' becomes ') for line in moves))
+        self.assertEqual((copied_away(store), last), (before, f'{new}: 2 tables, 8 versions'))
+        self.assertEqual([line.split(' becomes ')[0] for line in dry],
+                         [*ahead, 'EMP: 3 versions with the same values',
+                          'PAY: 5 versions with the same values'])
+        self.assertEqual(ahead, ('2962-01-01 00:00:00', '2962-01-01 00:00:00.000001',
+                                 '2963-01-01 00:00:00'))
+        moments = [spelling.moment_of(moment) or 0 for moment in became]
+        self.assertEqual(moments, [*range(moments[0], moments[0] + 3)])
+        self.assertTrue(begun <= moments[2] <= ended, became)
+        dumps = [self.path('old'), self.path('new')]
+        for one, folder in zip((store, new), dumps):
+            self.tool('dump', one, '--to', folder)
+        wanted, found = map(texts, dumps)
+        for kept in (wanted, found):
+            kept['dump.csv'] = kept['dump.csv'].partition('sum,')[0]
+        for name, text in wanted.items():
+            for moment, other in sorted(zip(ahead, became), reverse=True):
+                text = text.replace(moment, other)
+            wanted[name] = text
+        self.assertEqual(found, wanted)
+        for one, status in (store, 2), (new, 0):
+            done = subprocess.run(['bitemporal_file', one, '--now'], input=b'DELETE FROM PAY;',
+                                  executable=os.environ['BITEMPORAL'], capture_output=True,
+                                  check=False)
+            self.assertEqual((done.returncode, done.stdout, b'is ahead' in done.stderr),
+                             ((2, b'', True), (0, b'done,1,delete,1\n', False))[status == 0])
+        self.assertEqual(self.tool('alter', new, '--clock-now', '--to', self.path('no')),
+                         (f'{new} has no moment after the time of this machine\n', ''))
+        self.assertFalse(os.path.exists(self.path('no')))
+
+    def test_moments_that_stay_before_those_that_are_moved(self) -> None:
+        last = spelling.moment_of('2024-08-01 00:00:00') or 0
+        store = self.made('ahead.store', PAY + "AT TIMESTAMP '2024-08-01 00:00:00';"
+                          'UPDATE PAY SET CENTS = 2;' + AHEAD)
+        with reading.opened(store) as opened:
+            for passed, first in (0, 1), (2, 1), (3, 1), (4, 2), (10, 8):
+                with mock.patch('time.time_ns', lambda now=last + passed: now * 1000 + 999):
+                    self.assertEqual([moment - last for moment in clock.moves_of(opened).values()],
+                                     [*range(first, first + 3)])
 
     def test_tables(self) -> None:
         store = self.made('boss.store', BOSS)
@@ -67,7 +128,7 @@ class Alter(StoreTests):
                          ['DEP.csv', 'EMP.csv', 'dump.csv', 'tables.sql'])
         found = self.altered(store, '--drop-reference', 'PAY.ENO=EMP.ENO', '--drop-table', 'EMP',
                              '--rename-table', 'PAY=SALARY', '--rename-table', 'DEP=PAY')
-        self.assertEqual(found['dump.csv'].splitlines()[2:],
+        self.assertEqual(found['dump.csv'].splitlines()[2:-1],
                          ['table,1,SALARY,SALARY.csv,3', 'table,2,PAY,PAY.csv,3'])
 
     def test_a_reference_to_a_later_table(self) -> None:
@@ -76,7 +137,7 @@ class Alter(StoreTests):
         found = self.altered(store, '--add-reference', 'EMP.ENO=DEP.DNO', '--drop-reference',
                              'EMP.ENO=DEP.DNO', '--drop-reference', 'PAY.ENO=EMP.ENO',
                              '--key', 'EMP=NAME,ENO', '--key', 'EMP=ENO')
-        self.assertEqual(found['dump.csv'].splitlines()[2:], [
+        self.assertEqual(found['dump.csv'].splitlines()[2:-1], [
             'table,1,EMP,EMP.csv,2', 'table,2,PAY,PAY.csv,3', 'table,3,DEP,DEP.csv,3'])
         script = BOSS.replace("(8, 102,", "(8, 101,").replace(
             "VALUES (101, 'Ann', DATE '2024-01-01', DATE '9999-12-31')",
@@ -85,7 +146,7 @@ class Alter(StoreTests):
             "VALUES (8, 310000, DATE '2024-02-01', DATE '2024-04-01')")
         store = self.made('later.store', script)
         found = self.altered(store, '--add-reference', 'EMP.ENO=DEP.DNO')
-        self.assertEqual(found['dump.csv'].splitlines()[2:], [
+        self.assertEqual(found['dump.csv'].splitlines()[2:-1], [
             'table,1,DEP,DEP.csv,3', 'table,2,EMP,EMP.csv,2', 'table,3,PAY,PAY.csv,1'])
         self.assertIn('FOREIGN KEY (ENO, PERIOD EP) REFERENCES DEP (DNO, PERIOD DP)',
                       found['tables.sql'])

@@ -63,10 +63,11 @@ UPDATE PAY FOR PORTION OF PP FROM DATE '2024-03-01' TO DATE '2024-04-01'
  SET CENTS = 1 WHERE ENO = 101;
 '''
 PAY_FILES = {
-    'dump.csv': '''bitemporal dump,1
+    'dump.csv': '''bitemporal dump,2
 clock,2024-07-01 00:00:00
 table,1,EMP,EMP.csv,2
 table,2,PAY,PAY.csv,3
+sum,0a6d178c5f0f2b2edaf3d77ec0c937e0
 ''',
     'EMP.csv': '''ENO,NAME,S,E,SS,SE
 101,"A, ""B""",2024-01-01,9999-12-31,2024-06-20 09:00:00.250000,9999-12-31 23:59:59.999999
@@ -143,6 +144,7 @@ class Dump(StoreTests):
                          f'{self.path("new.store")}: 2 tables, 5 versions\n')
         self.assertEqual(contents(self.path('new.store'), ['EMP', 'PAY']),
                          contents(store, ['EMP', 'PAY']))
+        self.assertIn(verified(store).decode().splitlines()[-1], found['dump.csv'].splitlines())
         refused = answered(self.path('new.store'), "AT TIMESTAMP '2024-06-30 23:59:59.999999';")
         self.assertEqual(refused, [['refused', '1', '40', 'MomentBack', '']])
 
@@ -214,8 +216,7 @@ AT TIMESTAMP '2024-07-01 00:00:00';
         """Two rows of a parent become one, under a row that refers to both: no statements do it."""
         days = "DATE '2024-01-01', DATE '2024-02-01'), (101, 'Ann', DATE '2024-02-01',"
         script = PAY.replace("'Ann', DATE '2024-01-01',", f"'Ann', {days}", 1)
-        store = self.made('pay.store', script)
-        self.tool('dump', store, '--to', self.path('d'))
+        self.dumped_without_sum(script)
         path = pathlib.Path(self.path('d'), 'EMP.csv')
         lines = path.read_text('utf-8').splitlines(keepends=True)
         path.write_text(lines[0] + lines[1].replace('2024-02-01', '9999-12-31')
@@ -232,9 +233,47 @@ AT TIMESTAMP '2024-07-01 00:00:00';
         self.assertIn(old, text)
         path.write_text(text.replace(old, new, 1), 'utf-8')
 
+    def dumped_without_sum(self, script: str) -> None:
+        """A dump of a script's store in the form 1, which has no sum."""
+        self.tool('dump', self.made('pay.store', script), '--to', self.path('d'))
+        self.change('dump.csv', 'bitemporal dump,2', 'bitemporal dump,1')
+        [line] = [line for line in texts(self.path('d'))['dump.csv'].splitlines(keepends=True)
+                  if line.startswith('sum,')]
+        self.change('dump.csv', line, '')
+
+    def test_edited_dumps(self) -> None:
+        """One in which a value, the clock or the order of versions is another is refused."""
+        self.tool('dump', self.made('pay.store', PAY), '--to', self.path('whole'))
+        first, *others = PAY_FILES['PAY.csv'].splitlines(keepends=True)
+        for name, old, new in (
+                ('EMP.csv', '101,Ann', '101,Eve'), ('EMP.csv', '2024-01-01', '2023-12-31'),
+                ('EMP.csv', '2024-01-10 09:00:00', '2024-01-10 09:00:01'),
+                ('dump.csv', 'clock,2024-07-01', 'clock,2024-07-02'),
+                ('tables.sql', 'VARCHAR(9)', 'VARCHAR(10)'),
+                ('PAY.csv', ''.join(others), ''.join(others[::-1])),
+                ('dump.csv', 'sum,0', 'sum,1')):
+            with self.subTest(new=new):
+                shutil.rmtree(self.path('d'), ignore_errors=True)
+                shutil.copytree(self.path('whole'), self.path('d'))
+                self.change(name, old, new)
+                found = self.refused('restore', self.path('d'), '--to', self.path('new.store'))
+                self.assertIn('was edited', found)
+
+    def test_dumps_for_all_and_for_one(self) -> None:
+        """A dump may be read by whoever may read the store."""
+        store = self.made('pay.store', PAY)
+        for mode, of_folder in ((0o600, 0o700), (0o640, 0o750), (0o644, 0o755), (0o400, 0o700)):
+            pathlib.Path(store).chmod(mode)
+            folder, script = self.path(f'{mode:o}.d'), self.path(f'{mode:o}.sql')
+            self.tool('dump', store, '--to', folder)
+            self.tool('dump', store, '--script', '--to', script)
+            self.assertEqual(pathlib.Path(folder).stat().st_mode & 0o777, of_folder)
+            self.assertEqual({file.stat().st_mode & 0o777 for file in (
+                *pathlib.Path(folder).iterdir(), pathlib.Path(script))}, {mode})
+
     def test_script_of_no_states(self) -> None:
         """A state from before a key was given breaks it."""
-        self.tool('dump', self.made('pay.store', PAY), '--to', self.path('d'))
+        self.dumped_without_sum(PAY)
         self.change('tables.sql', 'PRIMARY KEY (ENO, PP', 'PRIMARY KEY (CENTS, PP')
         self.change('PAY.csv', '101,310000,2024-01-01,9999-12-31,2024-01-10 09:00:00',
                     '7,310000,2024-03-01,2024-04-01,2024-01-10 09:00:00,2024-03-01 00:00:00\n'
@@ -248,7 +287,9 @@ AT TIMESTAMP '2024-07-01 00:00:00';
     def test_damaged_dumps(self) -> None:
         self.tool('dump', self.made('pay.store', PAY), '--to', self.path('whole'))
         for name, old, new, said in (
-                ('dump.csv', 'dump,1', 'dump,2', 'is of the form 2, and 1 is known'),
+                ('dump.csv', 'dump,2', 'dump,3', 'is of the form 3, and 2 is the last known'),
+                ('dump.csv', 'dump,2', 'dump,1', 'is not the head of a dump'),
+                ('dump.csv', 'sum,', 'sun,', 'is not the head of a dump'),
                 ('dump.csv', 'bitemporal dump', 'other', 'is not the head of a dump'),
                 ('dump.csv', 'clock,2024', 'clock,x024', "'x024-07-01 00:00:00' is no moment"),
                 ('dump.csv', 'EMP,EMP', 'EMQ,EMP', 'lists other tables than'),
@@ -277,7 +318,7 @@ AT TIMESTAMP '2024-07-01 00:00:00';
         self.assertIn('dump.csv', self.refused('restore', self.path('none'), '--to', 'n.store'))
 
     def test_restored_row_without_parent(self) -> None:
-        self.tool('dump', self.made('pay.store', PAY), '--to', self.path('d'))
+        self.dumped_without_sum(PAY)
         self.change('PAY.csv', '101,325000', '102,325000')
         found = self.refused('restore', self.path('d'), '--to', self.path('new.store'), status=1)
         self.assertEqual(found, 'restore: PAY: EMP has no row with ENO = 102 on 2024-07-01, and a'

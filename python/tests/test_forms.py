@@ -17,11 +17,13 @@ from test_dump import texts
 FOLDER = ROOT / 'tests/forms'
 CHANGED = {1: '2024-06-20 09:00:00', 2: '2024-06-20 09:00:00.250000'}
 OPEN = '9999-12-31 23:59:59.999999'
+SUMS = {1: 'db03231c2c4796147e9a3cf80c8e156c', 2: '6173858f2f73fceb89dda61a7f85878a'}
 FILES = {
-    'dump.csv': '''bitemporal dump,1
+    'dump.csv': '''bitemporal dump,2
 clock,2024-07-01 00:00:00
 table,1,EMP,EMP.csv,4
 table,2,PAY,PAY.csv,3
+sum,SUM
 ''',
     'EMP.csv': '''ENO,NAME,SINCE,S,E,SS,SE
 -102,"O'Neil, ""Bob""",0001-01-01,0001-01-01,9999-12-31,0001-01-01 00:00:00,CHANGED
@@ -65,6 +67,7 @@ class Forms(StoreTests):
         for form, changed in CHANGED.items():
             with self.subTest(form=form):
                 wanted = {name: text.replace('CHANGED', changed).replace('OPEN', OPEN)
+                          .replace('SUM', SUMS[form])
                           for name, text in FILES.items()}
                 self.of_form(form, self.path(f'{form}.store'), wanted)
 

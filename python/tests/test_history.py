@@ -43,7 +43,7 @@ recorded                    ENO  valid_from  valid_to    change
                          'PAY: 0 changes')
         for words, said in ((['NONE'], 'has no table NONE. Its tables are EMP, PAY.'),
                             (['PAY', '--key', 'PP=1'], 'PAY has no value column PP; its value'),
-                            (['PAY', '--key', 'ENO'], "'ENO' is not of the form COLUMN=VALUE"),
+                            (['PAY', '--key', 'ENO'], '--key ENO: write NAME=VALUE'),
                             (['PAY', '--since', '2024'], "'2024' is no moment")):
             self.assertIn(said, self.refused('history', store, *words))
 

@@ -17,8 +17,8 @@ from typing import Any, Union
 
 import support
 from bitemporal_scale.dask_cluster import DEBIAN_PYTHON, cluster, has_dask
-from bitemporal_tools.loading.cells import literal
 from bitemporal_tools.reports.records import record, records
+from bitemporal_tools.sql.literals import literal
 from bitemporal_tools.sql.tree import Value
 from support import ROOT, Case, Files, chosen, program, run, tool
 import random_scripts

@@ -10,6 +10,7 @@ from collections.abc import Callable, Iterator
 
 from bitemporal_tools.loading import cells
 from bitemporal_tools.sql.catalog import Table
+from bitemporal_tools.sql.literals import literal
 from bitemporal_tools.sql.refusals import MOST_TOKENS
 from bitemporal_tools.sql.tree import Column
 
@@ -31,17 +32,17 @@ def date(cell: str) -> datetime.date:
 
 @functools.lru_cache(100_000)
 def day_literal(day: datetime.date) -> str:
-    return cells.literal(day)
+    return literal(day)
 
 
 def integer_literal(cell: str) -> str:
     if cell.isascii() and cell.isdigit() and len(cell) < DIGITS_THAT_FIT:
         return cell
-    return cells.literal(cells.whole_number(cell))
+    return literal(cells.whole_number(cell))
 
 
 def text_literal(most: int, cell: str) -> str:
-    return cells.literal(cells.text(cell, most))
+    return literal(cells.text(cell, most))
 
 
 def date_literal(cell: str) -> str:

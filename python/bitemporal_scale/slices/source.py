@@ -9,8 +9,8 @@ import datetime
 from collections.abc import Iterator
 from typing import Optional
 
-from bitemporal_tools.loading.cells import literal
 from bitemporal_tools.sql.catalog import Catalog, Table
+from bitemporal_tools.sql.literals import literal
 from bitemporal_tools.sql.queries import columns_of
 from bitemporal_tools.sql.script import Statement, judge
 from bitemporal_tools.sql.tree import Create, Delete, Insert, Portion, Sequenced, Stored, Update

@@ -2,8 +2,9 @@
 import concurrent.futures
 import logging
 import pathlib
-import subprocess
 from typing import Any
+
+from bitemporal_tools.engine_session import ran
 
 from .slice_file import SliceFile
 
@@ -33,9 +34,8 @@ class Here:
 
     def run_one(self, part: SliceFile) -> None:
         with open(part.report, 'wb') as report:
-            ran = subprocess.run([self.program, *self.words, str(part.path)], stdout=report,
-                                 stderr=subprocess.PIPE, check=False)
-        judged(part, ran.returncode, ran.stderr)
+            done = ran('bitemporal', [*self.words, part.path], path=self.program, stdout=report)
+        judged(part, done.returncode, done.stderr)
 
     def close(self) -> None:
         """Nothing stays between runs."""

@@ -22,21 +22,10 @@ class Altered:
     width: int
     sources: dict[str, Source]
 
-    def converter(self) -> Callable[[bytes], bytes]:
-        """A function that makes the new values of a version of those that it has."""
-        sources = [self.sources[name] for name in self.table.value_names]
-
-        def converted(values: bytes) -> bytes:
-            parts = parts_of(values)
-            return b''.join([parts[source] if isinstance(source, int) else source
-                             for source in sources])
-        return converted
-
     @property
     def is_as_it_was(self) -> bool:
         """Whether each version keeps its values."""
-        return [self.sources[name] for name in self.table.value_names] == \
-            list(range(self.width))
+        return [self.sources[name] for name in self.table.value_names] == list(range(self.width))
 
 
 class Schema:
@@ -95,9 +84,11 @@ def converted(altered: Altered, versions: Iterator[Version]) -> Iterator[Version
     if altered.is_as_it_was:
         yield from versions
         return
-    convert = altered.converter()
+    sources = [altered.sources[name] for name in altered.table.value_names]
     for values, *moments in versions:
-        yield Version(convert(values), *moments)
+        parts = parts_of(values)
+        yield Version(b''.join([parts[source] if isinstance(source, int) else source
+                                for source in sources]), *moments)
 
 
 def checked_name(name: str) -> str:

@@ -1,5 +1,7 @@
 """The changes that a script names, by ALTER TABLE and DROP TABLE. The help of `alter` has their
 forms."""
+from functools import partial
+
 from bitemporal_tools.alteration import changes
 from bitemporal_tools.alteration.changes import Change
 from bitemporal_tools.command_line import Fault
@@ -7,9 +9,7 @@ from bitemporal_tools.sql.lexis import Places, lexed, pieces
 from bitemporal_tools.sql.parser import Parser
 from bitemporal_tools.sql.reader import NoStatement
 from bitemporal_tools.sql.refusals import Refused
-from bitemporal_tools.stores.tables import DATE, INTEGER, VARCHAR, Column, Reference
-
-KINDS = {'INTEGER': INTEGER, 'DATE': DATE, 'VARCHAR': VARCHAR}
+from bitemporal_tools.stores.tables import KINDS, Column, Reference
 
 
 class ChangeParser(Parser):
@@ -22,8 +22,8 @@ class ChangeParser(Parser):
 
     def one_change(self) -> Change:
         if self.takes('DROP', 'TABLE'):
-            name = str(self.name())
-            return changes.DropTable(name, self.takes_one_of('RESTRICT', 'CASCADE') == 'CASCADE')
+            return partial(changes.drop_table, str(self.name()),
+                           self.takes_one_of('RESTRICT', 'CASCADE') == 'CASCADE')
         self.needs('ALTER', 'TABLE')
         table = str(self.name())
         action = self.needs_one_of('ADD', 'DROP', 'ALTER', 'RENAME')
@@ -33,14 +33,12 @@ class ChangeParser(Parser):
 
     def added(self, table: str) -> Change:
         if self.takes('PRIMARY', 'KEY', '('):
-            return changes.SetKey(table, tuple(map(str, self.key().columns)))
+            return partial(changes.set_key, table, tuple(map(str, self.key().columns)))
         if self.takes('FOREIGN', 'KEY'):
-            columns, _ = self.columns_and_period()
-            self.needs('REFERENCES')
-            parent = str(self.name())
+            reference = self.parent_of()
             parent_columns, _ = self.columns_and_period()
-            return changes.AddReference(table, Reference(
-                parent, tuple(map(str, columns)), tuple(map(str, parent_columns))))
+            return partial(changes.add_reference, table, reference._replace(
+                parent_columns=tuple(map(str, parent_columns))))
         self.takes('COLUMN')
         name, (kind, number) = str(self.name()), self.column_type()
         if kind == 'TIMESTAMP':
@@ -50,16 +48,20 @@ class ChangeParser(Parser):
         self.takes('NOT', 'NULL')
         if value.kind != kind:
             raise Fault(f'{table}.{name} is {kind}, and its value {value.kind}')
-        return changes.AddColumn(table, Column(name, KINDS[kind], number or 0), value.value)
+        return partial(changes.add_column, table, Column(name, KINDS[kind], number or 0),
+                       value.value)
+
+    def parent_of(self) -> Reference:
+        """A reference, as far as the name of its parent."""
+        columns, _ = self.columns_and_period()
+        self.needs('REFERENCES')
+        return Reference(str(self.name()), tuple(map(str, columns)), ())
 
     def dropped(self, table: str) -> Change:
         if self.takes('FOREIGN', 'KEY'):
-            columns, _ = self.columns_and_period()
-            self.needs('REFERENCES')
-            return changes.DropReference(table, Reference(
-                str(self.name()), tuple(map(str, columns)), ()))
+            return partial(changes.drop_reference, table, self.parent_of())
         self.takes('COLUMN')
-        change = changes.DropColumn(table, str(self.name()))
+        change = partial(changes.drop_column, table, str(self.name()))
         self.takes('RESTRICT')
         return change
 
@@ -70,15 +72,15 @@ class ChangeParser(Parser):
         kind, number = self.column_type()
         if kind != 'VARCHAR':
             raise Fault(f'{table}.{name}: a text can be made longer, and no type changes')
-        return changes.Widen(table, name, number or 0)
+        return partial(changes.widen, table, name, number or 0)
 
     def renamed(self, table: str) -> Change:
         if self.takes('TO'):
-            return changes.RenameTable(table, str(self.name()))
+            return partial(changes.rename_table, table, str(self.name()))
         self.takes('COLUMN')
         old = str(self.name())
         self.needs('TO')
-        return changes.Rename(table, old, str(self.name()))
+        return partial(changes.rename, table, old, str(self.name()))
 
 
 def changes_of(name: str, text: str) -> list[Change]:

@@ -8,8 +8,8 @@ import re
 from collections.abc import Iterable, Iterator, Sequence
 
 from bitemporal_tools.command_line import Fault
-from bitemporal_tools.days.rows import DayRow, DayTable, Values, picked
-from bitemporal_tools.days.stretches import Period, stretches, within
+from bitemporal_tools.days.rows import DayRow, DayTable, Values, stretches_by
+from bitemporal_tools.days.stretches import Period, within
 from bitemporal_tools.days.windows import Window
 from bitemporal_tools.reports.answer_tables import by_name
 from bitemporal_tools.reports.asked import Asked
@@ -32,11 +32,7 @@ class Condition:
 
     def days(self, columns: str) -> DaysOf:
         """The days of each list of values of the columns."""
-        places = self.table.places(columns)
-        found: DaysOf = {}
-        for row in self.rows():
-            found.setdefault(picked(row.values, places), []).append((row.start, row.end))
-        return {values: stretches(periods) for values, periods in found.items()}
+        return stretches_by(self.rows(), self.table.places(columns))
 
 
 def condition(text: str, answers: Sequence[Asked]) -> Condition:

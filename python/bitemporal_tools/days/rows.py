@@ -4,17 +4,19 @@ A stored query is taken too, if it shows what was known at one moment: then no k
 on one day.
 """
 import dataclasses
-from collections.abc import Sequence
-from typing import NamedTuple, Optional
+from collections.abc import Callable, Hashable, Iterable, Sequence
+from typing import NamedTuple, Optional, TypeVar
 
-from bitemporal_tools.reports.answer_tables import title_and_name
+from bitemporal_tools.reports.answer_tables import Called, called
 from bitemporal_tools.command_line import Fault
 from bitemporal_tools.days.numbers import ordinal
-from bitemporal_tools.days.stretches import within
+from bitemporal_tools.days.stretches import Period, stretches, within
 from bitemporal_tools.days.windows import Window
 from bitemporal_tools.reports.report import Answer, Statement, Versions
 
 Values = tuple[str, ...]
+Item = TypeVar('Item')
+Group = TypeVar('Group', bound=Hashable)
 
 
 class DayRow(NamedTuple):
@@ -25,12 +27,9 @@ class DayRow(NamedTuple):
 
 
 @dataclasses.dataclass
-class DayTable:
+class DayTable(Called):
     """The answer of a statement. `columns` are the values' names, and `kinds` their types, as far
     as they are known."""
-    number: int
-    title: str
-    name: str
     columns: list[str]
     kinds: list[str]
     rows: list[DayRow]
@@ -68,19 +67,31 @@ class DayTable:
                         ' and no numbers') from None
 
 
+def grouped(items: Iterable[Item], key: Callable[[Item], Group]) -> dict[Group, list[Item]]:
+    """Items by their group, in the order in which the groups come first."""
+    found: dict[Group, list[Item]] = {}
+    for item in items:
+        found.setdefault(key(item), []).append(item)
+    return found
+
+
+def stretches_by(rows: Iterable[DayRow], places: Sequence[int]) -> dict[Values, list[Period]]:
+    """The days of the rows that are alike in some places, as stretches."""
+    return {values: stretches((row.start, row.end) for row in found)
+            for values, found in grouped(rows, lambda row: picked(row.values, places)).items()}
+
+
 def picked(values: Sequence[str], places: Sequence[int]) -> Values:
     return tuple(values[place] for place in places)
 
 
 def day_table(statement: Statement) -> DayTable:
     """The table of a statement that answered."""
-    title, name = title_and_name(statement)
     outcome = statement.outcome
     if isinstance(outcome, Answer):
         rows = [DayRow(row.values, ordinal(row.start), ordinal(row.end)) for row in outcome.rows]
-        return DayTable(statement.number, title, name, list(outcome.names), list(outcome.kinds),
-                        rows)
-    return DayTable(statement.number, title, name, list(outcome.table.value_names),
+        return DayTable(*called(statement), list(outcome.names), list(outcome.kinds), rows)
+    return DayTable(*called(statement), list(outcome.table.value_names),
                     [column.kind for column in outcome.table.values],
                     version_rows(statement, outcome))
 
@@ -90,8 +101,4 @@ def version_rows(statement: Statement, outcome: Versions) -> list[DayRow]:
     if window is not None and window.kind != 'AS OF':
         raise Fault(f'statement {statement.number} shows what was known at several moments, so it'
                     ' may have two rows for a day: ask by AS OF, or without a window')
-    table, names = outcome.table, outcome.names
-    places = [names.index(name) for name in table.value_names]
-    start, end = names.index(table.period.start), names.index(table.period.end)
-    return [DayRow(picked(row, places), ordinal(row[start]), ordinal(row[end]))
-            for row in outcome.rows]
+    return [DayRow(*version[:3]) for version in outcome.versions()]

@@ -6,7 +6,7 @@ one on which a row begins or ends, so a sweep over these days finds them all.
 from collections.abc import Iterable, Iterator, Sequence
 from typing import NamedTuple, Optional
 
-from bitemporal_tools.days.rows import Values
+from bitemporal_tools.days.rows import Values, grouped
 
 
 class Share(NamedTuple):
@@ -29,10 +29,7 @@ def steps(shares: Iterable[Share], keeps_gaps: bool = False) -> Iterator[Step]:
     """The steps of each group in turn, in the order in which the groups come first. A group has no
     step on days on which it has no row. With `keeps_gaps` it has one with totals of 0 there, if
     that is between two of its rows."""
-    groups: dict[Values, list[Share]] = {}
-    for share in shares:
-        groups.setdefault(share.group, []).append(share)
-    for found in groups.values():
+    for found in grouped(shares, lambda share: share.group).values():
         yield from joined(swept(found, keeps_gaps))
 
 

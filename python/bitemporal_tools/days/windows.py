@@ -9,6 +9,9 @@ from bitemporal_tools.days.numbers import LAST, ordinal
 from bitemporal_tools.days.stretches import Period
 
 MONTHS = {'month': 1, 'quarter': 3, 'year': 12}
+# The option that names a window.
+WITHIN = {'--in DAYS': 'these days alone: 2024, 2024-Q2, 2024-03, a day, or two of them as'
+                       ' FIRST..LAST, with both in it'}
 
 
 class Window(NamedTuple):
@@ -24,6 +27,12 @@ def first_of(month: int) -> int:
     return datetime.date(month // 12, month % 12 + 1, 1).toordinal()
 
 
+def month_of(day: int) -> int:
+    """The month of a day, counted so."""
+    date = datetime.date.fromordinal(day)
+    return date.year * 12 + date.month - 1
+
+
 def named(number: int, length: int) -> str:
     """The name of a number of months: 2024, 2024-Q2 or 2024-03."""
     year = f'{number // 12:04}'
@@ -34,8 +43,8 @@ def named(number: int, length: int) -> str:
 
 def months(first: int, end: int, kind: str) -> Iterator[Window]:
     """The months (quarters, years) that have a day from `first` on and before `end`."""
-    length, day = MONTHS[kind], datetime.date.fromordinal(first)
-    number = (day.year * 12 + day.month - 1) // length * length
+    length = MONTHS[kind]
+    number = month_of(first) // length * length
     while first_of(number) < end:
         yield Window(named(number, length), (first_of(number), first_of(number + length)))
         number += length
@@ -50,8 +59,8 @@ def one_window(text: str) -> Period:
         return day, day + 1
     length = 3 if found[2] else 1 if found[3] else 12
     month = int(found[2]) * 3 - 2 if found[2] else int(found[3] or 1)
-    first = datetime.date(int(found[1]), month, 1)
-    return first.toordinal(), first_of(first.year * 12 + first.month - 1 + length)
+    first = datetime.date(int(found[1]), month, 1).toordinal()
+    return first, first_of(month_of(first) + length)
 
 
 def window(text: str) -> Window:

@@ -1,4 +1,5 @@
 """Refusals of a whole script (1 to 3): the place, the text there, and how to mend it."""
+import itertools
 import re
 from collections.abc import Iterator
 from typing import NamedTuple, Optional
@@ -69,55 +70,41 @@ ODDITIES = [Oddity(re.compile(pattern), cause, mend) for pattern, cause, mend in
      'Leave it out, or put it into a text in single quotes.'))]
 
 
-def located(path: str, places: Places, offset: int, refused: Refused, text: str) -> list[str]:
-    """The lines that tell the place of a refusal of the whole script."""
-    line = text[:offset].rfind('\n') + 1
-    end = text.find('\n', offset)
-    return [f'{path}:{places.shown(offset)}: the whole script: {refused.number}'
-            f' {NAMES[refused.number]}',
-            '    ' + shown(text[line:end if end >= 0 else len(text)])]
+def about(place: str, number: int, line: Optional[str], lines: list[str]) -> str:
+    """The text about a refusal of the whole script: its place, the line there, and sentences."""
+    shown_line = [] if line is None else ['    ' + shown(line)]
+    return '\n'.join([f'{place}: the whole script: {number} {NAMES[number]}', *shown_line,
+                      *wrapped(lines)])
 
 
 def of_script(path: str, script: bytes, refused: Refused) -> str:
     """The text about the refusal of a whole script, given as bytes."""
     if refused.number == 2:
-        lines = [f'Cause: The script has {len(script):,} bytes, and {MOST_BYTES:,} are the most.',
-                 'What to do: Split it into several scripts. Each begins with an empty store, so'
-                 ' each has to make its tables and insert its rows itself.']
-        return '\n'.join([f'{path}: the whole script: 2 {NAMES[2]}', *wrapped(lines)])
+        return about(path, 2, None, [
+            f'Cause: The script has {len(script):,} bytes, and {MOST_BYTES:,} are the most.',
+            'What to do: Split it into several scripts. Each begins with an empty store, so each'
+            ' has to make its tables and insert its rows itself.'])
     if refused.number == 1:
         return not_utf8(path, script, refused)
     text = script.decode('utf-8')
-    places, lines = Places(text), []
-    for number, (offset, cause, mend) in enumerate(oddities(text, refused.offset)):
-        if number == MOST_PLACES:
-            lines.append('And more of them follow.')
-            break
-        lines += [f'Cause at {places.shown(offset)}: {cause}',
-                  f'What to do at {places.shown(offset)}: {mend}']
-    head = located(path, places, first_place(text, refused.offset), refused, text)
-    return '\n'.join([*head, *wrapped(lines)])
+    places = Places(text)
+    found = list(itertools.islice(oddities(text, refused.offset), MOST_PLACES + 1))
+    lines = [f'{what} at {places.shown(offset)}: {sentence}'
+             for offset, cause, mend in found[:MOST_PLACES]
+             for what, sentence in (('Cause', cause), ('What to do', mend))]
+    lines += ['And more of them follow.'] * (len(found) > MOST_PLACES)
+    first, *_ = found[0]
+    start = text.rfind('\n', 0, first) + 1
+    return about(f'{path}:{places.shown(first)}', 3, text[start:].split('\n', 1)[0], lines)
 
 
 def not_utf8(path: str, script: bytes, refused: Refused) -> str:
     text = script[:refused.byte].decode('utf-8')
     byte = script[refused.byte]
     line = script[script.rfind(b'\n', 0, refused.byte) + 1:].split(b'\n')[0]
-    places = Places(text)
-    lines = [f'Cause: The byte {byte:02X} here, byte {refused.byte} counted from 0, is not UTF-8.'
-             f' In Latin-1 it is {bytes([byte]).decode("latin-1")!r}.',
-             'What to do: Save the script as UTF-8.']
-    return '\n'.join([f'{path}:{places.shown(len(text))}: the whole script: 1 {NAMES[1]}',
-                      '    ' + shown(line.decode('latin-1')), *wrapped(lines)])
-
-
-def first_place(text: str, offset: int) -> int:
-    """The place at which the fault begins: before the bad token, if it is due to an
-    apostrophe."""
-    if text[offset] != "'":
-        return offset
-    torn = torn_text(text)
-    return torn[0].start() if torn else offset
+    return about(f'{path}:{Places(text).shown(len(text))}', 1, line.decode('latin-1'), [
+        f'Cause: The byte {byte:02X} here, byte {refused.byte} counted from 0, is not UTF-8. In'
+        f' Latin-1 it is {chr(byte)!r}.', 'What to do: Save the script as UTF-8.'])
 
 
 def torn_text(text: str) -> Optional[tuple[re.Match[str], re.Match[str]]]:

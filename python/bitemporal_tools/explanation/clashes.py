@@ -1,26 +1,22 @@
 """The rows that 42 and 43 are about."""
 import operator
 from collections.abc import Iterator
+from typing import Optional
 
 from bitemporal_tools.sql.catalog import Table
 from bitemporal_tools.sql.current_rows import Clash, CurrentRow
 from bitemporal_tools.sql.lexis import Places
-from bitemporal_tools.sql.tree import Delete, Insert, Name, Reference, Update, Value
+from bitemporal_tools.sql.literals import literal
+from bitemporal_tools.sql.tree import Delete, Insert, Name, Update
 
 from .report import Refusal
 
 
-def cell(value: Value) -> str:
-    """A value as a script has it."""
-    if isinstance(value, int):
-        return str(value)
-    if isinstance(value, str):
-        return "'" + value.replace("'", "''") + "'"
-    return f"DATE '{value}'"
-
-
-def named(row: CurrentRow, table: Table, names: list[Name]) -> str:
-    return ' and '.join(f'{name} = {cell(row.values[table.place(name)])}' for name in names)
+def named(row: CurrentRow, table: Table, names: list[Name],
+          others: Optional[list[Name]] = None) -> str:
+    """The values of some columns, by their names or by others."""
+    return ' and '.join(f'{other} = {literal(row.values[table.place(name)])}'
+                        for name, other in zip(names, others or names))
 
 
 def period(row: CurrentRow) -> str:
@@ -39,9 +35,10 @@ def causes(clash: Clash, places: Places) -> Iterator[tuple[int, str]]:
         return
     reference = clash.reference
     assert reference
+    wanted = named(row, table, reference.columns, reference.table_columns)
     yield row.offset, (f'This row of {table.name} with {named(row, table, reference.columns)} would'
                        f' hold {period(row)}, and on {clash.day} no row of {reference.table}'
-                       f' would have {wanted(row, table, reference)}.')
+                       f' would have {wanted}.')
 
 
 def unseen_cause(refusal: Refusal) -> str:
@@ -53,9 +50,3 @@ def unseen_cause(refusal: Refusal) -> str:
         'a row would have no row of the table to which it refers'
     return f"Cause: On {refusal.day} {what}. SELECT * FROM {table.name} WHERE {table.period.name}" \
            f" CONTAINS DATE '{refusal.day}' shows what holds on that day before the statement."
-
-
-def wanted(row: CurrentRow, table: Table, reference: Reference) -> str:
-    """The values that a parent of the row would have."""
-    return ' and '.join(f'{other} = {cell(row.values[table.place(own)])}'
-                        for own, other in zip(reference.columns, reference.table_columns))

@@ -14,7 +14,7 @@ from bitemporal_tools.sql.reader import A_NAME, A_NUMBER, A_TEXT, THE_END
 from bitemporal_tools.sql.tree import Delete, Update
 
 from .slips import CUT, SLIPS, Slip
-from .texts import alternatives, joined, shown
+from .texts import joined, shown
 
 MOST_ROUNDS, MOST_SHOWN = 16, 400
 FURTHER = 3  # tokens more that a mend which no slip names has to reach
@@ -65,7 +65,7 @@ class Mending:
             'the end of the statement'
         expected = sorted(self.parsed.expected, key=lambda what: (what != ',', what))
         return Advice(self.offsets[self.stop],
-                      f'{before}expected {alternatives(expected)}, found {found}')
+                      f'{before}expected {" or ".join(expected)}, found {found}')
 
     def advice(self) -> Iterator[Advice]:
         """Advice on each place in turn; last, if no mend is known, what is wrong there."""

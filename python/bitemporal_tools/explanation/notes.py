@@ -3,11 +3,11 @@ from collections.abc import Iterator
 from typing import Optional
 
 from bitemporal_tools.sql.catalog import Table
+from bitemporal_tools.sql.current_rows import fixed
 from bitemporal_tools.sql.lexis import Token
 from bitemporal_tools.sql.scope import IS_NEW_NAME, NO_JOINS
 from bitemporal_tools.sql.script import Statement
-from bitemporal_tools.sql.tree import (And, ColumnReference, Comparison, Condition, Literal, Query,
-                                       Select, Sequenced, Value)
+from bitemporal_tools.sql.tree import Query, Select, Sequenced
 
 from .texts import recipe
 
@@ -61,15 +61,3 @@ def parted_by(one: Query, other: Query, tables: dict[str, Table]) -> Optional[st
     values, others = fixed(one.where), fixed(other.where)
     return next((column for column, value in values.items()
                  if column not in key and others.get(column, value) != value), None)
-
-
-def fixed(condition: Optional[Condition]) -> dict[str, Value]:
-    """The columns that a condition compares by = with a literal, each with its value."""
-    if isinstance(condition, And):
-        return {column: value for part in condition.conditions
-                for column, value in fixed(part).items()}
-    if isinstance(condition, Comparison) and condition.sign == '=':
-        for side, other in ((condition.left, condition.right), (condition.right, condition.left)):
-            if isinstance(side, ColumnReference) and isinstance(other, Literal):
-                return {side.name: other.value}
-    return {}

@@ -13,32 +13,28 @@ from bitemporal_tools.sql.lexis import lexed
 from bitemporal_tools.sql.literals import date_of
 
 
-def columns_of_star(groups: dict[str, str],
-                    tables: dict[str, Table]) -> Union[str, tuple[str, str]]:
+Groups = dict[str, str]
+Tables = dict[str, Table]
+
+
+def columns_of(groups: Groups, tables: Tables) -> Union[str, tuple[str, str]]:
+    """The value columns of a table; of the first of several, which may have a new name, with its
+    name before them."""
     table, front = tables.get(groups['table'].upper()), 'VALIDTIME SELECT DISTINCT '
     if not table:
         return front + 'A', front + '..'
-    return front + ', '.join(table.value_names)
+    name = (groups['new'] or groups['table']) + '.' if 'new' in groups else ''
+    return front + ', '.join(name + column for column in table.value_names)
 
 
-def columns_of_first(groups: dict[str, str],
-                     tables: dict[str, Table]) -> Union[str, tuple[str, str]]:
-    """The value columns of the first of several tables, with its name before them."""
-    table, front = tables.get(groups['table'].upper()), 'VALIDTIME SELECT DISTINCT '
-    name = groups['new'] or groups['table']
-    if not table:
-        return front + 'A', front + '..'
-    return front + ', '.join(f'{name}.{column}' for column in table.value_names)
-
-
-def equal_columns(groups: dict[str, str], tables: dict[str, Table]) -> str:
+def equal_columns(groups: Groups, tables: Tables) -> str:
     """The condition of a join USING some columns."""
     one, two = groups['new'] or groups['one'], groups['other'] or groups['two']
     names = groups['by'].split(', ')
     return 'ON ' + ' AND '.join(f'{one}.{name} = {two}.{name}' for name in names)
 
 
-def meant(groups: dict[str, str], tables: dict[str, Table]) -> str:
+def meant(groups: Groups, tables: Tables) -> str:
     """A comparison with a value that might mean what is not known."""
     name = groups['left'].split('.')[-1].strip().upper()
     kinds = [table.by_name[name].kind for table in tables.values() if name in table.by_name]
@@ -46,19 +42,19 @@ def meant(groups: dict[str, str], tables: dict[str, Table]) -> str:
     return f'{groups["left"]} = {value}'
 
 
-def end_of_key(groups: dict[str, str], tables: dict[str, Table]) -> str:
+def end_of_key(groups: Groups, tables: Tables) -> str:
     names = groups['names'].upper().split(', ')
     if len(names) > 1 and names[-1] == groups['period'].upper():
         return ' WITHOUT OVERLAPS'
     return f', {groups["period"]} WITHOUT OVERLAPS'
 
 
-def whole_number(groups: dict[str, str], tables: dict[str, Table]) -> str:
+def whole_number(groups: Groups, tables: Tables) -> str:
     """The number without its point, as cents if it has two digits after it."""
     return groups['whole'] + (groups['part'] + '00')[:max(2, len(groups['part']))]
 
 
-def comparisons(groups: dict[str, str], tables: dict[str, Table]) -> str:
+def comparisons(groups: Groups, tables: Tables) -> str:
     """A list of values as comparisons."""
     sign, word = ('<>', ' AND ') if groups.get('no') else ('=', ' OR ')
     items: list[list[str]] = []
@@ -72,14 +68,13 @@ def comparisons(groups: dict[str, str], tables: dict[str, Table]) -> str:
     return f'({word.join(tests)})' if len(tests) > 1 else tests[0]
 
 
-def between(groups: dict[str, str], tables: dict[str, Table]) -> str:
+def between(groups: Groups, tables: Tables) -> str:
     left, low, high = (groups[name] for name in ('left', 'low', 'high'))
-    if groups.get('no'):
-        return f'({left} < {low} OR {left} > {high})'
-    return f'({left} >= {low} AND {left} <= {high})'
+    return f'({left} < {low} OR {left} > {high})' if groups.get('no') else \
+        f'({left} >= {low} AND {left} <= {high})'
 
 
-def like(groups: dict[str, str], tables: dict[str, Table]) -> str:
+def like(groups: Groups, tables: Tables) -> str:
     """The texts that begin as the pattern does, or that are its text."""
     left, text = groups['left'], groups['text'][1:-1]
     start = re.split('[%_]', text)[0]
@@ -93,7 +88,7 @@ def like(groups: dict[str, str], tables: dict[str, Table]) -> str:
     return f"({left} >= '{start}' AND {left} < '{after}')"
 
 
-def same_as_like(groups: dict[str, str], tables: dict[str, Table]) -> tuple[Optional[str], str]:
+def same_as_like(groups: Groups, tables: Tables) -> tuple[Optional[str], str]:
     """A comparison that is met by the same texts, if there is one."""
     pattern = groups['text'][1:-1]
     start = pattern.rstrip('%')
@@ -104,7 +99,7 @@ def same_as_like(groups: dict[str, str], tables: dict[str, Table]) -> tuple[Opti
     return condition, f'compare by = and by <, such as {condition}'
 
 
-def portion(groups: dict[str, str], tables: dict[str, Table]) -> tuple[None, str]:
+def portion(groups: Groups, tables: Tables) -> tuple[None, str]:
     """Advice to name the days of a change in the place of a period predicate. Nothing is put."""
     found = re.fullmatch(r"(\w+) (?:CONTAINS DATE '(.*)'"
                          r"|OVERLAPS PERIOD ?\(DATE '(.*)', ?DATE '(.*)'\))", groups['out'])
@@ -121,7 +116,7 @@ def day_after(text: str) -> Optional[str]:
     return str(day + datetime.timedelta(1)) if day and day < datetime.date.max else None
 
 
-def days_of_others(groups: dict[str, str], tables: dict[str, Table]) -> str:
+def days_of_others(groups: Groups, tables: Tables) -> str:
     """The WHERE of a stored query for the days that another database takes after FOR."""
     days = f'CONTAINS DATE {groups["day"]}' if groups['day'] else \
         f'OVERLAPS PERIOD (DATE {groups["start"]}, DATE {groups["end"]})'

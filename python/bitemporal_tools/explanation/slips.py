@@ -15,14 +15,13 @@ import re
 from collections.abc import Callable
 from typing import Any, NamedTuple, Optional, Union
 
-from bitemporal_tools.sql.catalog import Table
 from bitemporal_tools.sql.literals import FIRST_MOMENT, FOREVER
 
 from . import rewriting
 from .texts import recipe
 
 # The result of a call of rewriting.py: what is put, or a pair of this and of what is shown of it.
-Rewriting = Callable[[dict[str, str], dict[str, Table]], Union[str, tuple[Optional[str], str]]]
+Rewriting = Callable[[rewriting.Groups, rewriting.Tables], Union[str, tuple[Optional[str], str]]]
 
 
 class Slip(NamedTuple):
@@ -95,12 +94,12 @@ BEGINNINGS = [
     (r"^INSERT INTO \w+ (?:\( [^()]*\) )?@ (?:SELECT|VALIDTIME) ", None,
      "Write the rows after VALUES: an INSERT takes no query."),
     (r"^(?P<out>VALIDTIME SELECT (?:DISTINCT )?@ (?:ALL )?\* )FROM (?P<table>\w+) ",
-     rewriting.columns_of_star,
+     rewriting.columns_of,
      "Write DISTINCT and the value columns: {put} FROM {table}. (* is for SELECT * FROM table"
      " alone, without VALIDTIME.)"),
     (rf"^(?P<out>SELECT \* )FROM (?P<table>\w+) (?:{WINDOW})?"
      r"@ (?:(?:AS )?(?P<new>(?!LEFT|RIGHT|FULL|CROSS|INNER|JOIN)[A-Z_]\w*) )?"
-     rf"(?:JOIN|INNER|LEFT|RIGHT|FULL|CROSS|,|{SET_OPERATOR}) ", rewriting.columns_of_first,
+     rf"(?:JOIN|INNER|LEFT|RIGHT|FULL|CROSS|,|{SET_OPERATOR}) ", rewriting.columns_of,
      "SELECT * is of one table alone. Write VALIDTIME SELECT DISTINCT and the value columns: {put}"
      " FROM {table} .."),
     (r"^(?P<out>SELECT @ (?:DISTINCT |ALL )?)", "VALIDTIME SELECT DISTINCT",

@@ -30,7 +30,3 @@ def joined(tokens: list[Token]) -> str:
         line += token.text if token.offset == end or not line else ' ' + token.text
         end = token.end
     return line
-
-
-def alternatives(items: list[str]) -> str:
-    return ' or '.join(items)

@@ -1,4 +1,4 @@
-"""A cell of a CSV file to a value of the language, and a value to its literal.
+"""A cell of a CSV file to a value of the language.
 
 A value is an int, a str or a datetime.date. A cell that has none is a ValueError that says why.
 """
@@ -8,7 +8,7 @@ import datetime
 import functools
 import re
 from collections.abc import Sequence
-from typing import Optional, Union
+from typing import Optional
 
 from bitemporal_tools.command_line import Fault
 from bitemporal_tools.sql.literals import FOREVER, GREATEST_NUMBER, LEAST_NUMBER, moment_of
@@ -124,17 +124,3 @@ def text(cell: str, most: int) -> str:
     if len(cell) > most:
         raise ValueError(f'{shown(cell)} has {len(cell)} characters, and the column takes {most}')
     return cell
-
-
-@functools.lru_cache(maxsize=10_000)
-def literal_of_date(day: datetime.date) -> str:
-    return f"DATE '{day.isoformat()}'"
-
-
-def literal(value: Union[int, str, datetime.date]) -> str:
-    """The literal of a value."""
-    if isinstance(value, int):
-        return str(value)
-    if isinstance(value, datetime.date):
-        return literal_of_date(value)
-    return "'" + value.replace("'", "''") + "'"

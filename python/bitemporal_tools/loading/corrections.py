@@ -17,6 +17,7 @@ import bisect
 import collections
 import datetime
 import functools
+import operator
 from collections.abc import Callable, Iterable, Iterator, Sequence
 from typing import NamedTuple, Optional, Union, cast
 
@@ -57,16 +58,13 @@ Clash = Callable[..., None]
 
 # A fact of a tuple of its fields, in a third of the time of a call of Fact.
 fact_of = cast(Callable[[object], Fact], functools.partial(tuple.__new__, Fact))
+first_day = operator.attrgetter('start')
 
 
 def with_days(fact: Fact, start: datetime.date, end: datetime.date) -> Fact:
     """A fact that says as much of other days."""
     line, moment, key, values, _, _, record, is_end = fact
     return fact_of((line, moment, key, values, start, end, record, is_end))
-
-
-def first_day(fact: Fact) -> datetime.date:
-    return fact.start
 
 
 def overlaps(facts: Iterable[Fact]) -> Iterator[tuple[Fact, Fact]]:
@@ -139,11 +137,7 @@ class Portions:
         """The sayings of facts of one moment. Facts that share days are reported to `clash`."""
         found: Said = {}
         for fact in facts:
-            key = fact.key
-            if key in found:
-                found[key].append(fact)
-            else:
-                found[key] = [fact]
+            found.setdefault(fact.key, []).append(fact)
         for key, of_key in found.items():
             if len(of_key) > 1:  # in the order of their lines
                 for pair in overlaps(sorted((fact for fact in of_key if not fact.is_end),

@@ -97,7 +97,9 @@ class Guess:
                 column.kind = f'VARCHAR({LENGTHS[2]})'
         if not self.values:
             raise Fault(f'{file.path} has no column beside those of days and moments', 1)
-        self.days = self.periods()
+        # The first day and the end of each row, as far as they exist.
+        self.days = list(zip(self.days_of(self.start, datetime.date.min),
+                             self.days_of(self.end, datetime.date.max)))
         self.key = self.find_key()
         self.is_inclusive = self.end is not None and self.ends_are_inclusive()
 
@@ -120,20 +122,12 @@ class Guess:
                  and column.kind in ('moment', 'DATE')]
         return next(iter(named + moments), None)
 
-    @staticmethod
-    def days_of(column: Optional[Column], default: datetime.date,
-                count: int) -> list[datetime.date]:
+    def days_of(self, column: Optional[Column], default: datetime.date) -> list[datetime.date]:
         """The days of a column, and a default for each empty cell."""
         if column is None:
-            return [default] * count
+            return [default] * len(self.file.lines)
         found = {text: column.day(text) if text.strip() else default for text in set(column.texts)}
         return [found[text] for text in column.texts]
-
-    def periods(self) -> list[tuple[datetime.date, datetime.date]]:
-        """The first day and the end of each row, as far as they exist."""
-        count = len(self.file.lines)
-        return list(zip(self.days_of(self.start, datetime.date.min, count),
-                        self.days_of(self.end, datetime.date.max, count)))
 
     def is_key(self, key: Sequence[Column]) -> bool:
         """Whether no two rows that are recorded at one moment have these cells on one day. A row
@@ -244,6 +238,7 @@ class Guess:
         return re.sub('[^ -~]', '?', ', '.join(filter(None, notes)))
 
     def text(self) -> str:
+        """The text of a CREATE TABLE for the file, with the command that loads it."""
         period = self.free('VALID')
         start = self.start.name if self.start else self.free('S')
         end = self.end.name if self.end else self.free('E')
@@ -270,8 +265,3 @@ class Guess:
                   f' PERIOD FOR SYSTEM_TIME ({since}, {until}),',
                   f' PRIMARY KEY ({key}, {period} WITHOUT OVERLAPS)) WITH SYSTEM VERSIONING;']
         return '\n'.join(lines) + '\n'
-
-
-def create_table(file: CsvFile, wanted: argparse.Namespace) -> str:
-    """The text of a CREATE TABLE for a file, with the command that loads it."""
-    return Guess(file, wanted).text()

@@ -54,9 +54,10 @@ class GroupedRows:
     def __init__(self, columns: Mapping[str, Sequence[Hashable]], days: Iterable[
             tuple[datetime.date, datetime.date]], owners: Iterable[Hashable],
             lines: Iterable[int]) -> None:
-        rows = sorted((start.toordinal(), end.toordinal(), owner, line, place)
-                      for place, ((start, end), owner, line)
-                      in enumerate(zip(days, numbered(owners), lines)))
+        known: dict[Hashable, int] = {}  # equal owners as equal numbers
+        rows = sorted((start.toordinal(), end.toordinal(), known.setdefault(owner, len(known)),
+                       line, place) for place, ((start, end), owner, line)
+                      in enumerate(zip(days, owners, lines)))
         self.rows = [row[:4] for row in rows]
         self.columns = {name: [cells[row[4]] for row in rows] for name, cells in columns.items()}
 
@@ -90,9 +91,3 @@ class GroupedRows:
         found = [(self.handovers(group), group) for group in self.groups(key)]
         following = [(handovers.total, group) for handovers, group in found if handovers.follow]
         return max(following, key=lambda pair: pair[0])[1] if following else None
-
-
-def numbered(cells: Iterable[Hashable]) -> list[int]:
-    """Equal cells as equal numbers."""
-    known: dict[Hashable, int] = {}
-    return [known.setdefault(cell, len(known)) for cell in cells]

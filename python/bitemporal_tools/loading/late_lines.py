@@ -16,19 +16,17 @@ if TYPE_CHECKING:
     from bitemporal_tools.loading.stored_rows import Recorded
 
 
-class SaidDays:
-    """The sayings of lines in turn: of each key the last one of each day."""
-
-    def __init__(self) -> None:
-        self.facts: Said = {}
-
-    def take(self, said: Said) -> None:
+def last_said(sayings: Iterable[Said]) -> Said:
+    """The last saying of each day of each key, of the sayings of lines in turn."""
+    found: Said = {}
+    for said in sayings:
         for key, facts in said.items():
-            if key in self.facts:
+            if key in found:
                 for fact in facts:
-                    override(self.facts[key], fact)
+                    override(found[key], fact)
             else:
-                self.facts[key] = list(facts)
+                found[key] = list(facts)
+    return found
 
 
 def differing(said: list[Fact], held: list[Fact]) -> list[Fact]:

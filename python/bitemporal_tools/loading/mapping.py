@@ -13,29 +13,24 @@ import operator
 import re
 import shlex
 import unicodedata
-from collections.abc import Callable, Iterable, Iterator, Sequence
-from typing import NamedTuple, Optional, TypeVar
+from collections.abc import Callable, Iterable, Sequence
+from typing import Optional, TypeVar
 
-from bitemporal_tools.command_line import Fault
+from bitemporal_tools.command_line import Fault, pairs
 from bitemporal_tools.loading import cells
 from bitemporal_tools.loading.corrections import Fact, Value
 from bitemporal_tools.loading.csv_file import BadLine, CsvFile
 from bitemporal_tools.loading.fact_columns import FactColumns
 from bitemporal_tools.sql.catalog import Table
 from bitemporal_tools.sql.lexis import RESERVED
-from bitemporal_tools.sql.tree import Column
+from bitemporal_tools.sql.tree import Column, Name
 
-FIRST_DAY, LAST_DAY = datetime.date.min, datetime.date.max
+FIRST_DAY, LAST_DAY = datetime.date.min, cells.LAST_DAY
 # The days of rows in files of tools/answers, which --always doesn't read.
 DAYS_OF_ANSWERS = ('valid_from', 'valid_to', 'last_day')
 # Open ends of system time begin so: in most databases, and the last moments of MariaDB's.
 OPEN_ENDS = ('9999-', '2038-01-19 03:14:07', '2106-02-07 06:28:15')
 Read = TypeVar('Read')
-
-
-class Bad(NamedTuple):
-    """Why a cell has no value."""
-    why: str
 
 
 def name_of(header: str) -> str:
@@ -57,17 +52,6 @@ def names_of(headers: Iterable[str]) -> list[str]:
             name, number = f'{name_of(header).rstrip("_")}_{number}', number + 1
         names.append(name)
     return names
-
-
-def pairs(texts: Iterable[str], option: str) -> dict[str, str]:
-    """NAME=VALUE texts as a dict by the name in upper case."""
-    found = {}
-    for text in texts:
-        name, equals, value = text.partition('=')
-        if not equals or not name.strip():
-            raise Fault(f'{option} {text}: write NAME=VALUE')
-        found[name.strip().upper()] = value
-    return found
 
 
 class Mapping:
@@ -147,9 +131,7 @@ class Mapping:
     def read_removed(self) -> Optional[tuple[int, str]]:
         if not self.options.removed:
             return None
-        name, equals, value = self.options.removed.partition('=')
-        if not equals:
-            raise Fault(f'--removed {self.options.removed}: write COLUMN=VALUE')
+        [(name, value)] = pairs([self.options.removed], '--removed').items()
         return self.named(name, '--removed'), value
 
     def open_end(self) -> Optional[datetime.date]:
@@ -187,7 +169,9 @@ class Mapping:
         None."""
         values = {str(column.name): self.values(column, self.removed_lines)
                   for column in self.table.values}
-        starts, ends = self.starts(), self.ends()
+        period = self.table.period
+        starts = self.days(period.start, FIRST_DAY, self.start)
+        ends = self.days(period.end, LAST_DAY, self.end)
         self.judge_periods(starts, ends)
         moments = [''] * len(self.file.lines) if self.recorded is None else \
             self.moments(self.recorded)
@@ -201,7 +185,8 @@ class Mapping:
 
     def facts(self, columns: FactColumns) -> list[Fact]:
         """The facts of all records that are not bad."""
-        facts = columns.facts(self.records())
+        facts = columns.facts(zip(*(self.file.columns[place] for place in self.record))
+                              if self.record else itertools.repeat(()))
         if self.recorded_to is not None:
             facts = self.with_ends(facts, self.moments(self.recorded_to))
         bad, removed = {line.line for line in self.file.bad}, self.removed_lines
@@ -222,10 +207,6 @@ class Mapping:
             if until != fact.moment:  # else it was never seen
                 seen.append(fact)
         return found + seen
-
-    def records(self) -> Iterator[tuple[str, ...]]:
-        return zip(*(self.file.columns[place] for place in self.record)) if self.record else \
-            itertools.repeat(())
 
     @functools.cached_property
     def removed_lines(self) -> set[int]:
@@ -280,7 +261,7 @@ class Mapping:
             if not text.strip():
                 raise ValueError(f'empty: --empty {column.name}=VALUE says what that means')
             if column.kind == 'DATE':
-                return cells.date(text, self.dates, self.options.dates)
+                return self.date(text)
             return cells.whole_number(text, scale, decimal)
 
         values = self.column(column.name, place, read,
@@ -293,35 +274,30 @@ class Mapping:
         except OverflowError:
             raise ValueError('its days are beyond 9999-12-31') from None
 
-    def starts(self) -> Sequence[Optional[datetime.date]]:
-        if self.options.always:
-            return [FIRST_DAY] * len(self.file.lines)
+    def days(self, name: Name, always: datetime.date,
+             read: Callable[[str], datetime.date]) -> Sequence[Optional[datetime.date]]:
+        """The days of a column of the period; with --always one day for all."""
+        return [always] * len(self.file.lines) if self.options.always else \
+            self.column(name, self.places[name], read)
 
-        def read(text: str) -> datetime.date:
-            if not text.strip():
-                raise ValueError('empty')
-            return self.later(cells.date(text, self.dates, self.options.dates))
+    def date(self, text: str) -> datetime.date:
+        return cells.date(text, self.dates, self.options.dates)
 
-        name = self.table.period.start
-        return self.column(name, self.places[name], read)
+    def start(self, text: str) -> datetime.date:
+        if not text.strip():
+            raise ValueError('empty')
+        return self.later(self.date(text))
 
-    def ends(self) -> Sequence[Optional[datetime.date]]:
-        if self.options.always:
-            return [LAST_DAY] * len(self.file.lines)
-
-        def read(text: str) -> datetime.date:
-            if text.strip():
-                end = cells.date(text, self.dates, self.options.dates)
-                if self.options.inclusive_to and end < LAST_DAY:
-                    end += datetime.timedelta(1)
-            elif self.open is None:
-                raise ValueError('empty: with --open 9999-12-31 the row has no end')
-            else:
-                end = self.open
-            return end if end == LAST_DAY else self.later(end)
-
-        name = self.table.period.end
-        return self.column(name, self.places[name], read)
+    def end(self, text: str) -> datetime.date:
+        if text.strip():
+            end = self.date(text)
+            if self.options.inclusive_to and end < LAST_DAY:
+                end += datetime.timedelta(1)
+        elif self.open is None:
+            raise ValueError('empty: with --open 9999-12-31 the row has no end')
+        else:
+            end = self.open
+        return end if end == LAST_DAY else self.later(end)
 
     def judge_periods(self, starts: Sequence[Optional[datetime.date]],
                       ends: Sequence[Optional[datetime.date]]) -> None:

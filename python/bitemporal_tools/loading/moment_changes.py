@@ -8,9 +8,9 @@ from collections.abc import Iterator
 from typing import TYPE_CHECKING, Optional, Union
 
 from bitemporal_tools.loading.corrections import (Clash, Fact, Others, Portions, Records, Said,
-                                                  TableDays, Values, first_day, uncovered)
+                                                  TableDays, first_day, uncovered)
 from bitemporal_tools.loading.fact_columns import FactColumns
-from bitemporal_tools.loading.late_lines import SaidDays, differing, joined, unrecorded
+from bitemporal_tools.loading.late_lines import differing, joined, last_said, unrecorded
 from bitemporal_tools.loading.script_writer import StatementWriter
 from bitemporal_tools.loading.tables import Groups
 from bitemporal_tools.sql.catalog import Table
@@ -74,11 +74,8 @@ class MomentChanges:
         count = bisect.bisect_right([fact.moment for fact in facts], clock)
         if not facts or not facts[-1].moment:  # no moments: all is said now
             count = 0
-        said = SaidDays()
-        for _, of_moment in self.said(facts[:count]):
-            said.take(of_moment)
-        parts: dict[Values, list[Fact]] = {}
-        for key, of_key in said.facts.items():
+        parts: Said = {}
+        for key, of_key in last_said(said for _, said in self.said(facts[:count])).items():
             found = differing(of_key, self.days.facts.get(key, []))
             if found:
                 parts[key] = found

@@ -2,7 +2,6 @@
 and all that was ever recorded."""
 from __future__ import annotations
 
-import contextlib
 import datetime
 from collections.abc import Collection, Iterable, Iterator, Sequence
 from typing import NamedTuple, Optional
@@ -10,11 +9,10 @@ from typing import NamedTuple, Optional
 from bitemporal_tools.loading.corrections import Fact, TableDays, Values, first_day
 from bitemporal_tools.loading.fact_columns import FactColumns
 from bitemporal_tools.sql.catalog import Table
-from bitemporal_tools.stores import reading, spelling
+from bitemporal_tools.stores import spelling
 from bitemporal_tools.stores.reading import Store, Version
 from bitemporal_tools.stores.tables import create_tables
 
-EPOCH = datetime.date(1970, 1, 1).toordinal()
 # With fewer keys than one of so many versions each is looked up by itself.
 VERSIONS_OF_A_LOOK_UP = 20
 
@@ -57,7 +55,7 @@ class StoredTable:
     def day(self, number: int) -> datetime.date:
         found = self.days.get(number)
         if found is None:
-            found = self.days[number] = datetime.date.fromordinal(number + EPOCH)
+            found = self.days[number] = datetime.date.fromordinal(number + spelling.EPOCH)
         return found
 
     def current(self, keys: Optional[Collection[Values]]) -> TableDays:
@@ -111,7 +109,7 @@ class StoredTable:
                 found.append(int.from_bytes(data[at:at + 8], 'big') - 2 ** 63)
                 at += 9
             elif kind == 'DATE':
-                found.append(self.day(int.from_bytes(data[at:at + 4], 'big') + 1 - EPOCH))
+                found.append(self.day(int.from_bytes(data[at:at + 4], 'big') + 1 - spelling.EPOCH))
                 at += 5
             else:
                 end = data.index(b'\0\0', at)
@@ -132,10 +130,3 @@ class LoadedStore:
         """The table, if the store has it."""
         is_there = any(known.name == table.name for known in self.store.tables)
         return StoredTable(self.store, table) if is_there else None
-
-
-@contextlib.contextmanager
-def opened(path: str) -> Iterator[LoadedStore]:
-    """The store in a file."""
-    with reading.opened(path) as store:
-        yield LoadedStore(store)

@@ -11,8 +11,11 @@ from collections.abc import Sequence
 from typing import NamedTuple, Optional
 
 from bitemporal_tools.command_line import counted
+from bitemporal_tools.days.numbers import LAST, ordinal
+from bitemporal_tools.days.rows import grouped
+from bitemporal_tools.days.stretches import Period
 from bitemporal_tools.pictures.canvas import LABEL, MOST_LABEL, SMALL, Canvas
-from bitemporal_tools.pictures.days_axis import FIRST, LAST, DaysAxis, Period, day_of
+from bitemporal_tools.pictures.days_axis import DaysAxis
 from bitemporal_tools.pictures.text_room import cut, room
 from bitemporal_tools.reports.answer_tables import in_order
 from bitemporal_tools.reports.report import Answer, Row
@@ -31,16 +34,13 @@ class Line(NamedTuple):
 def lines_of(answer: Answer, place: Optional[int] = None) -> list[Line]:
     """The lines of an answer: of each list of values, or with a place of a column each of
     its lanes' lines."""
-    lines: dict[Sequence[str], list[Row]] = {}
     if place is None:
-        for row in answer.rows:
-            lines.setdefault(row.values, []).append(row)
         return [Line(', '.join(values), rows, [None] * len(rows))
-                for values, rows in lines.items()]
-    for row in answer.rows:
-        lines.setdefault((row.values[place],), []).append(row)
-    values = in_order(list(lines), list, [0])
-    return [line for value in values for line in lane(value[0], lines[value], place)]
+                for values, rows in grouped(answer.rows, lambda row: row.values).items()]
+    by: int = place
+    lanes = grouped(answer.rows, lambda row: row.values[by])
+    return [line for value in in_order(list(lanes), lambda value: [value], [0])
+            for line in lane(value, lanes[value], place)]
 
 
 def lane(value: str, rows: Sequence[Row], place: int) -> list[Line]:
@@ -61,8 +61,8 @@ def others(row: Row, place: int) -> str:
     return ', '.join((*row.values[:place], *row.values[place + 1:]))
 
 
-def periods_of(answer: Answer) -> list[Period]:
-    return [(day_of(row.start), day_of(row.end)) for row in answer.rows]
+def days_of(row: Row) -> Period:
+    return ordinal(row.start), ordinal(row.end)
 
 
 def draw(canvas: Canvas, axis: DaysAxis, answer: Answer, heading: str,
@@ -84,21 +84,18 @@ def draw(canvas: Canvas, axis: DaysAxis, answer: Answer, heading: str,
 
 
 def bar(canvas: Canvas, axis: DaysAxis, row: Row, middle: float, said: Optional[str]) -> None:
-    start, end = day_of(row.start), day_of(row.end)
-    left, right = axis.place(start), axis.place(end)
+    period = days_of(row)
+    left, right = map(axis.place, period)
     canvas.box(left, middle - BAR / 2, right - left, BAR,
                canvas.colour(row.values if said is None else said),
                f'{", ".join(row.values)}: from {row.start} on, no longer on {row.end};'
                f' held {row.held}, absent {row.absent}')
-    words = f'{row.start} \u2013 {"open" if end == LAST else row.end}' if said is None else said
-    words = words if said is None else cut(words, right - left - 16, SMALL)
+    words = f'{row.start} \u2013 {"open" if period[1] == LAST else row.end}' if said is None \
+        else cut(said, right - left - 16, SMALL)
     if words != '\u2026' and right - left >= room(words, SMALL) + 16:
         canvas.text((left + right) / 2, middle + 4, words, 'inside', 'middle')
     if said is None:
         canvas.dot(left, middle, 'held')
         if row.absent != 'none':
             canvas.dot(left - 8, middle, 'absent')
-    if end == LAST:
-        canvas.arrow(right, middle, 1)
-    if start == FIRST:
-        canvas.arrow(left, middle, -1)
+    canvas.open_ends(period, left, right, middle)

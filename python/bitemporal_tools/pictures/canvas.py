@@ -1,10 +1,11 @@
 """An SVG picture that grows downwards: what is drawn next is put below what is drawn."""
-import html
 from collections.abc import Hashable, Iterable
 
+from bitemporal_tools.days.numbers import FIRST, LAST
+from bitemporal_tools.days.stretches import Period
 from bitemporal_tools.pictures.days_axis import DaysAxis
 from bitemporal_tools.pictures.text_room import cut, room
-from bitemporal_tools.reports.shown import for_terminal
+from bitemporal_tools.reports.shown import for_page
 
 WIDTH, EDGE = 1040, 10
 LABEL, SMALL, BOLD, TITLE = 12, 11, 13.5, 17  # sizes of fonts; bold letters are broader
@@ -20,10 +21,6 @@ text { font-size: 12px; fill: #222 } .head { font-weight: bold } .small { font-s
 .ended { fill-opacity: 0.35; stroke: #777 } .ended-text { font-size: 11px; fill: #222 }
 .past { stroke: #c00000; stroke-width: 1.6; stroke-dasharray: 6 3 }
 .past-text { font-size: 11px; fill: #c00000 } .title { font-size: 15px; font-weight: bold }'''
-
-
-def written(text: str) -> str:
-    return html.escape(for_terminal(text))
 
 
 class Canvas:
@@ -43,7 +40,7 @@ class Canvas:
     def text(self, x: float, y: float, words: str, kind: str = '',
              anchor: str = 'start') -> None:
         self.parts.append(f'<text x="{x:.1f}" y="{y:.1f}" class="{kind}" text-anchor="{anchor}">'
-                          f'{written(words)}</text>')
+                          f'{for_page(words)}</text>')
 
     def line(self, x: float, y: float, other_x: float, other_y: float, kind: str) -> None:
         self.parts.append(f'<line x1="{x:.1f}" y1="{y:.1f}" x2="{other_x:.1f}" y2="{other_y:.1f}"'
@@ -54,7 +51,7 @@ class Canvas:
         """A rectangle; `said` is shown where the pointer rests on it."""
         self.parts.append(f'<rect x="{x:.1f}" y="{y:.1f}" width="{max(width, 1.5):.1f}"'
                           f' height="{height:.1f}" fill="{colour}" class="{kind}">'
-                          f'<title>{written(said)}</title></rect>')
+                          f'<title>{for_page(said)}</title></rect>')
 
     def dot(self, x: float, y: float, kind: str) -> None:
         self.parts.append(f'<circle cx="{x:.1f}" cy="{y:.1f}" r="3.5" class="{kind}"/>')
@@ -63,6 +60,13 @@ class Canvas:
         """A triangle that says that the drawing continues: to the right (1) or to the left (-1)."""
         self.parts.append(f'<path d="M{x:.1f} {y - 6:.1f} l{8 * towards} 6 l{-8 * towards} 6 z"'
                           ' class="open"/>')
+
+    def open_ends(self, period: Period, left: float, right: float, y: float) -> None:
+        """The triangles of a period that has no end, or no beginning."""
+        if period[1] == LAST:
+            self.arrow(right, y, 1)
+        if period[0] == FIRST:
+            self.arrow(left, y, -1)
 
     def title(self, words: str) -> None:
         """Some words above all that is drawn."""
@@ -86,12 +90,11 @@ class Canvas:
 
     def days(self, axis: DaysAxis, top: float) -> None:
         """The marks of days below what was drawn from `top` on, with lines up to it."""
-        marks = axis.marks(SMALL)
-        lines = [f'<line x1="{axis.place(day):.1f}" y1="{top:.1f}" x2="{axis.place(day):.1f}"'
-                 f' y2="{self.y:.1f}" class="grid"/>' for day, _ in marks]
-        self.parts[:0] = lines
-        for day, words in marks:
-            self.text(axis.place(day), self.y + 15, words, 'mark', 'middle')
+        marks = [(axis.place(day), words) for day, words in axis.marks(SMALL)]
+        self.parts[:0] = [f'<line x1="{x:.1f}" y1="{top:.1f}" x2="{x:.1f}" y2="{self.y:.1f}"'
+                          ' class="grid"/>' for x, _ in marks]
+        for x, words in marks:
+            self.text(x, self.y + 15, words, 'mark', 'middle')
         self.y += 24
 
     def svg(self, style: str = '') -> str:

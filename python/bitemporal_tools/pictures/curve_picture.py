@@ -3,15 +3,16 @@
 Panels of one total share their scale, so that groups can be compared. A total of 0 or no row is on
 the line below.
 """
-import datetime
 from collections.abc import Sequence
 from typing import NamedTuple
 
 from bitemporal_tools.command_line import counted
-from bitemporal_tools.days.rows import Values
+from bitemporal_tools.days.numbers import iso
+from bitemporal_tools.days.rows import grouped
 from bitemporal_tools.days.steps import Step, joined
+from bitemporal_tools.days.stretches import Period
 from bitemporal_tools.pictures.canvas import LABEL, MOST_LABEL, SMALL, Canvas
-from bitemporal_tools.pictures.days_axis import FIRST, LAST, DaysAxis, Period
+from bitemporal_tools.pictures.days_axis import DaysAxis
 from bitemporal_tools.pictures.text_room import cut, room
 from bitemporal_tools.reports.answer_tables import in_order
 
@@ -30,9 +31,7 @@ class Curve(NamedTuple):
 
 def curves_of(steps: Sequence[Step], names: Sequence[str]) -> list[Curve]:
     """The curves of totals with these names: of each total in turn the curves of all groups."""
-    groups: dict[Values, list[Step]] = {}
-    for step in steps:
-        groups.setdefault(step.group, []).append(step)
+    groups = grouped(steps, lambda step: step.group)
     places = range(len(steps[0].group)) if steps else ()
     found = []
     for place, name in enumerate(names):
@@ -40,18 +39,9 @@ def curves_of(steps: Sequence[Step], names: Sequence[str]) -> list[Curve]:
         low, high = min([0, *values]), max([0, *values])
         for group in in_order(list(groups), list, places):
             alone = (step._replace(totals=(step.totals[place],)) for step in groups[group])
-            own = [(step.totals[0], days(step)) for step in joined(alone)]
+            own = [(step.totals[0], (step.start, step.end)) for step in joined(alone)]
             found.append(Curve(', '.join(group), name, own, low, high))
     return found
-
-
-def days(step: Step) -> Period:
-    start, end = map(datetime.date.fromordinal, (step.start, step.end))
-    return start, end
-
-
-def periods_of(steps: Sequence[Step]) -> list[Period]:
-    return list(map(days, steps))
 
 
 def draw(canvas: Canvas, axis: DaysAxis, heading: str, curves: Sequence[Curve]) -> None:
@@ -84,16 +74,14 @@ def panel(canvas: Canvas, axis: DaysAxis, curve: Curve) -> None:
                 'end')
     if curve.high:
         canvas.text(canvas.right + 4, top + 4, str(curve.high), 'mark')
-    for value, (start, end) in curve.steps:
-        left, right = axis.place(start), axis.place(end)
+    for value, period in curve.steps:
+        left, right = map(axis.place, period)
         high, low = sorted((level(value), level(0)))
         canvas.box(left, high, right - left, low - high, canvas.colour(curve.name),
-                   f'{", ".join(filter(None, (curve.label, curve.name)))} {value}: from {start} on,'
-                   f' no longer on {end}')
+                   f'{", ".join(filter(None, (curve.label, curve.name)))} {value}: from'
+                   f' {iso(period[0])} on, no longer on {iso(period[1])}')
         words = str(value)
         if right - left > room(words, SMALL) + 8 and low - high > SMALL + 4:
             canvas.text((left + right) / 2, high + SMALL + 2, words, 'inside', 'middle')
-        if value and end == LAST:
-            canvas.arrow(right, (high + low) / 2, 1)
-        if value and start == FIRST:
-            canvas.arrow(left, (high + low) / 2, -1)
+        if value:
+            canvas.open_ends(period, left, right, (high + low) / 2)

@@ -11,7 +11,7 @@ from bitemporal_tools.pictures import answer_picture, curve_picture, version_pic
 from bitemporal_tools.pictures.canvas import SMALL, WIDTH, Canvas, left_of
 from bitemporal_tools.pictures.days_axis import DaysAxis
 from bitemporal_tools.pictures.text_room import room
-from bitemporal_tools.reports.answer_tables import title_and_name
+from bitemporal_tools.reports.answer_tables import called
 from bitemporal_tools.reports.report import Answer, Statement, Versions
 from bitemporal_tools.sql.tree import Sequenced, selects
 
@@ -38,7 +38,7 @@ def heading_of(statement: Statement) -> str:
     """The number of a statement, and its title, or its columns or table."""
     outcome = statement.outcome
     columns = ', '.join(outcome.names) if isinstance(outcome, Answer) else outcome.table.name
-    return f'{statement.number}: {title_and_name(statement)[0] or columns}'
+    return f'{statement.number}: {called(statement)[1] or columns}'
 
 
 def place_of(statement: Statement, by: Optional[str]) -> Optional[int]:
@@ -67,14 +67,15 @@ def drawing_of(statement: Statement, how: argparse.Namespace) -> Drawing:
     if isinstance(outcome, Answer):
         lines = answer_picture.lines_of(outcome, place)
         return Drawing(statement, heading, pages_of(lines, how.most),
-                       answer_picture.periods_of(outcome), [line.label for line in lines],
+                       list(map(answer_picture.days_of, outcome.rows)),
+                       [line.label for line in lines],
                        lambda canvas, axis, page, _: answer_picture.draw(
                            canvas, axis, outcome, heading, page))
     planes = version_picture.planes_of(outcome, place)
-    moments = version_picture.moments_of(version_picture.versions_of(outcome))
+    versions = list(outcome.versions())
     return Drawing(statement, heading, version_picture.pages_of(planes, how.most),
-                   version_picture.periods_of(outcome),
-                   list(map(version_picture.label_of, moments)),
+                   [(version.start, version.end) for version in versions],
+                   list(map(version_picture.label_of, version_picture.moments_of(versions))),
                    lambda canvas, axis, page, marks: version_picture.draw(
                        canvas, axis, outcome, heading, page, how.most, marks))
 
@@ -85,7 +86,7 @@ def totals_of(statement: Statement, how: argparse.Namespace) -> Drawing:
     curves = curve_picture.curves_of(steps, names)
     heading = heading_of(statement) + (f', by {how.by.upper()}' if how.by else '')
     return Drawing(statement, heading, pages_of(curves, max(1, how.most // 3)),
-                   curve_picture.periods_of(steps),
+                   [(step.start, step.end) for step in steps],
                    [label for curve in curves for label in (curve.label, curve.name)],
                    lambda canvas, axis, page, _: curve_picture.draw(
                        canvas, axis, heading, page),

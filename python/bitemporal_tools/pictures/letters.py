@@ -2,9 +2,11 @@
 from collections.abc import Sequence
 from typing import Union
 
-from bitemporal_tools.pictures.answer_picture import Line
+from bitemporal_tools.days.numbers import FIRST, LAST
+from bitemporal_tools.days.stretches import Period
+from bitemporal_tools.pictures.answer_picture import Line, days_of
 from bitemporal_tools.pictures.curve_picture import Curve
-from bitemporal_tools.pictures.days_axis import FIRST, LAST, DaysAxis, Period, day_of
+from bitemporal_tools.pictures.days_axis import DaysAxis
 from bitemporal_tools.reports.report import Row
 from bitemporal_tools.reports.shown import for_terminal, width
 
@@ -25,12 +27,13 @@ def lane_of(axis: DaysAxis, rows: Sequence[Row]) -> str:
     """The bars of some rows as a line of letters."""
     lane = [' '] * (WIDTH + 1)
     for row in rows:
-        left = round(axis.place(day_of(row.start)))
-        right = max(left + 1, round(axis.place(day_of(row.end))))
+        start, end = days_of(row)
+        left = round(axis.place(start))
+        right = max(left + 1, round(axis.place(end)))
         lane[left:right + 1] = '|' + '=' * (right - left - 1) + '|'
-        if day_of(row.start) == FIRST:
+        if start == FIRST:
             lane[left] = '<'
-        if day_of(row.end) == LAST:
+        if end == LAST:
             lane[right] = '>'
     return ''.join(lane[:WIDTH + 1]).rstrip()
 

@@ -5,46 +5,23 @@ recorded. Moments are at equal distances, since corrections come close together.
 column has a plane of its own. A red line is the moment of a query's AS OF: what it crosses is what
 the query saw.
 """
-import datetime
 from collections.abc import Iterable, Sequence
-from typing import NamedTuple, Optional
+from typing import Optional
 
 from bitemporal_tools.command_line import counted
+from bitemporal_tools.days.numbers import iso
+from bitemporal_tools.days.rows import grouped
 from bitemporal_tools.pictures.canvas import SMALL, Canvas
-from bitemporal_tools.pictures.days_axis import FIRST, LAST, DaysAxis, Period, day_of
+from bitemporal_tools.pictures.days_axis import DaysAxis
 from bitemporal_tools.pictures.text_room import cut
-from bitemporal_tools.reports.report import Versions
+from bitemporal_tools.reports.report import Version, Versions
 from bitemporal_tools.sql.literals import FIRST_MOMENT, FOREVER
 
 BAND, LOW_BAND, MANY = 44, 26, 12
 
 
-class Version(NamedTuple):
-    """Values, the days on which they hold, and the moments from which and to which they were
-    recorded."""
-    values: tuple[str, ...]
-    start: datetime.date
-    end: datetime.date
-    since: str
-    until: str
-
-
 # The versions by a value, which is in a place of theirs.
 PlaneOf = tuple[tuple[int, str], list[Version]]
-
-
-def versions_of(outcome: Versions) -> list[Version]:
-    """The versions that a stored query shows."""
-    table, names = outcome.table, outcome.names
-    places = [names.index(name) for name in table.value_names]
-    system = {column.generated: names.index(column.name) for column in table.system}
-    start, end = names.index(table.period.start), names.index(table.period.end)
-    return [Version(tuple(row[place] for place in places), day_of(row[start]), day_of(row[end]),
-                    row[system['START']], row[system['END']]) for row in outcome.rows]
-
-
-def periods_of(outcome: Versions) -> list[Period]:
-    return [(version.start, version.end) for version in versions_of(outcome)]
 
 
 def moments_of(versions: Iterable[Version]) -> list[str]:
@@ -60,12 +37,8 @@ def label_of(moment: str) -> str:
 def planes_of(outcome: Versions, place: Optional[int]) -> list[PlaneOf]:
     """The versions by their values in a place; of the first column of the key if there is
     none."""
-    planes: dict[tuple[int, str], list[Version]] = {}
-    if place is None:
-        place = outcome.table.place(outcome.table.key[0])
-    for version in versions_of(outcome):
-        planes.setdefault((place, version.values[place]), []).append(version)
-    return list(planes.items())
+    of = outcome.table.place(outcome.table.key[0]) if place is None else place
+    return list(grouped(outcome.versions(), lambda one: (of, one.values[of])).items())
 
 
 def pages_of(planes: Iterable[PlaneOf], most: int) -> list[list[PlaneOf]]:
@@ -144,18 +117,15 @@ class Plane:
         is_current = version.until == FOREVER
         ended = '' if is_current else f' to {version.until}'
         self.canvas.box(left, high, right - left, low - high, self.canvas.colour(values),
-                        f'{", ".join(version.values)}: from {version.start} on, no longer on'
-                        f' {version.end}; recorded from {version.since}{ended}',
+                        f'{", ".join(version.values)}: from {iso(version.start)} on, no longer on'
+                        f' {iso(version.end)}; recorded from {version.since}{ended}',
                         'current' if is_current else 'ended')
         middle = high + self.band / 2
         words = cut(', '.join(values), right - left - 12, SMALL)
         if words != '\u2026':
             self.texts.append(((left + right) / 2, middle + 4, words,
                                'inside' if is_current else 'ended-text', 'middle'))
-        if version.end == LAST:
-            self.canvas.arrow(right, middle, 1)
-        if version.start == FIRST:
-            self.canvas.arrow(left, middle, -1)
+        self.canvas.open_ends((version.start, version.end), left, right, middle)
 
     def mark(self, words: str, moment: str) -> None:
         """The red line of an AS OF, just above the last moment that isn't after it."""

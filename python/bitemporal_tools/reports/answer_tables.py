@@ -2,7 +2,7 @@
 import dataclasses
 import re
 from collections.abc import Callable, Iterable, Sequence
-from typing import Any, Optional, Protocol, TypeVar
+from typing import Any, Optional, TypeVar
 
 from bitemporal_tools.command_line import Fault
 from bitemporal_tools.reports.report import Answer, Statement
@@ -12,11 +12,16 @@ NAME = re.compile(r'name:\s*(\S.*)', re.IGNORECASE)
 LONGEST_NAME = 60
 
 
-class Called(Protocol):
+@dataclasses.dataclass
+class Called:
     """A thing that has a number, a title and a name."""
     number: int
     title: str
     name: str
+
+    @property
+    def called(self) -> tuple[int, str, str]:
+        return self.number, self.title, self.name
 
 
 Named = TypeVar('Named', bound=Called)
@@ -38,26 +43,21 @@ def name_of(comment: Sequence[str]) -> str:
     return file_name(named[1]) if named else ''
 
 
-def title_and_name(statement: Statement) -> tuple[str, str]:
-    """The title and the name of a statement by the comment above it. The title is its first line,
-    without what names it; the name is what it says, or the number and the title."""
+def called(statement: Statement) -> tuple[int, str, str]:
+    """The number of a statement, and its title and name by the comment above it. The title is the
+    first line, without what names it; the name is what it says, or the number and the title."""
     named = next(filter(None, map(NAME.match, statement.comment)), None)
     titles = [line for line in statement.comment if not NAME.match(line)]
     title = titles[0] if titles else named[1] if named else ''
-    name = name_of(statement.comment)
-    if not name:
-        name = '-'.join(filter(None, [str(statement.number), file_name(title).lower()]))
-    return title, name
+    return statement.number, title, name_of(statement.comment) or '-'.join(
+        filter(None, [str(statement.number), file_name(title).lower()]))
 
 
 @dataclasses.dataclass
-class Table:
+class Table(Called):
     """The answer of a statement, or what is made of it. `kinds` are the types of the columns, as
     far as they are known. `day` and `end` are the places of the columns with the first day of a row
     and its end; `scales` are the digits after the point of some places."""
-    number: int
-    title: str
-    name: str
     columns: list[str]
     rows: list[list[str]]
     kinds: list[str] = dataclasses.field(default_factory=list)
@@ -69,11 +69,9 @@ class Table:
     def of_statement(cls, statement: Statement, has_witness: bool = False) -> 'Table':
         """The table of a statement that answered."""
         outcome = statement.outcome
-        title, name = title_and_name(statement)
         if isinstance(outcome, Answer):
             rows = [[*row.values, row.start, row.end] for row in outcome.rows]
-            table = cls.of_periods(cls(statement.number, title, name, [], []), outcome.names, rows,
-                                   outcome.kinds)
+            table = cls.of_periods(Called(*called(statement)), outcome.names, rows, outcome.kinds)
             if has_witness:
                 table.columns += ['held', 'absent']
                 table.kinds += ['VARCHAR'] * 2 if table.kinds else []
@@ -81,16 +79,16 @@ class Table:
                               for cells, row in zip(rows, outcome.rows)]
             return table
         columns, period = list(outcome.names), outcome.table.period
-        return cls(statement.number, title, name, columns, [list(row) for row in outcome.rows],
+        return cls(*called(statement), columns, [list(row) for row in outcome.rows],
                    [column.kind for column in outcome.table.columns],
                    columns.index(period.start), columns.index(period.end))
 
     @classmethod
-    def of_periods(cls, called: Called, names: Sequence[str], rows: list[list[str]],
+    def of_periods(cls, of: Called, names: Sequence[str], rows: list[list[str]],
                    kinds: Sequence[str] = ()) -> 'Table':
         """A table whose rows end with a first day and an end."""
-        return cls(called.number, called.title, called.name, [*names, 'valid_from', 'valid_to'],
-                   rows, [*kinds, 'DATE', 'DATE'] if kinds else [], len(names), len(names) + 1)
+        return cls(*of.called, [*names, 'valid_from', 'valid_to'], rows,
+                   [*kinds, 'DATE', 'DATE'] if kinds else [], len(names), len(names) + 1)
 
     def is_number(self, place: int) -> bool:
         """Whether all cells of a column are numbers."""
@@ -104,8 +102,11 @@ def by_name(tables: Sequence[Named], which: str) -> Named:
         if wanted in (str(table.number), table.name, table.title) or \
                 wanted and file_name(wanted) == table.name:
             return table
-    names = ', '.join(table.name for table in tables) or 'none'
-    raise Fault(f'there is no answer {wanted} (there are: {names})', status=1)
+    raise Fault(f'there is no answer {wanted} (there are: {names_of(tables)})', status=1)
+
+
+def names_of(tables: Sequence[Called]) -> str:
+    return ', '.join(table.name for table in tables) or 'none'
 
 
 def free_names(names: Iterable[str]) -> list[str]:

@@ -1,11 +1,10 @@
 """A table of answers as CSV, as aligned text, and as a web page."""
-import html
-from collections.abc import Iterable
+from collections.abc import Collection, Iterable, Sequence
 
 from bitemporal_tools.command_line import counted
 from bitemporal_tools.reports.answer_tables import Table
 from bitemporal_tools.reports.records import record
-from bitemporal_tools.reports.shown import for_spreadsheet, for_terminal, width
+from bitemporal_tools.reports.shown import for_page, for_spreadsheet, for_terminal, width
 
 STYLE = '''body { font: 14px sans-serif; margin: 24px; color: #222; background: #fff }
 table { border-collapse: collapse; margin: 8px 0 28px }
@@ -28,37 +27,36 @@ def heading(table: Table) -> str:
 
 def as_table(table: Table, is_raw: bool = False) -> str:
     """Aligned text: numbers to the right, other cells to the left."""
-    def shown(text: str) -> str:
-        return text if is_raw else for_terminal(text)
+    title, rows = heading(table), table.rows
+    if not is_raw:
+        title, rows = for_terminal(title), [list(map(for_terminal, row)) for row in rows]
+    numbers = [place for place in range(len(table.columns)) if rows and table.is_number(place)]
+    return title + '\n' + aligned([table.columns, *rows], numbers)
 
-    rows = [[shown(cell) for cell in row] for row in table.rows]
-    widths = [max(map(width, column)) for column in zip(table.columns, *rows)]
-    numbers = [bool(rows) and table.is_number(place) for place in range(len(table.columns))]
 
-    def line(cells: Iterable[str]) -> str:
-        parts = [' ' * (room - width(cell)) + cell if number else
-                 cell + ' ' * (room - width(cell))
-                 for cell, room, number in zip(cells, widths, numbers)]
-        return '  '.join(parts).rstrip() + '\n'
-
-    rule = '  '.join('-' * room for room in widths) + '\n'
-    return shown(heading(table)) + '\n' + line(table.columns) + rule + ''.join(map(line, rows))
+def aligned(rows: Sequence[Sequence[str]], numbers: Collection[int] = ()) -> str:
+    """Aligned text with a rule under the first row. Some places are to the right."""
+    widths = [max(map(width, column)) for column in zip(*rows)]
+    rule = ['-' * room for room in widths]
+    lines = []
+    for cells in [rows[0], rule, *rows[1:]]:
+        spaces = [' ' * (room - width(cell)) for cell, room in zip(cells, widths)]
+        lines.append('  '.join(space + cell if place in numbers else cell + space
+                               for place, (cell, space) in enumerate(zip(cells, spaces))).rstrip())
+    return '\n'.join(lines) + '\n'
 
 
 def as_page(tables: Iterable[Table], title: str) -> str:
     """One page with all tables, without any script."""
-    def written(text: str) -> str:
-        return html.escape(for_terminal(text))
-
     parts = ['<!DOCTYPE html>\n<html lang="en"><head><meta charset="utf-8">'
-             f'<title>{written(title)}</title>\n<style>{STYLE}</style></head><body>\n']
+             f'<title>{for_page(title)}</title>\n<style>{STYLE}</style></head><body>\n']
     for table in tables:
         kinds = [' class="number"' if table.rows and table.is_number(place) else ''
                  for place in range(len(table.columns))]
-        parts.append(f'<h2>{written(heading(table))}</h2>\n<table>\n<tr>')
-        parts += [f'<th{kind}>{written(name)}</th>' for name, kind in zip(table.columns, kinds)]
+        parts.append(f'<h2>{for_page(heading(table))}</h2>\n<table>\n<tr>')
+        parts += [f'<th{kind}>{for_page(name)}</th>' for name, kind in zip(table.columns, kinds)]
         for row in table.rows:
             parts.append('</tr>\n<tr>')
-            parts += [f'<td{kind}>{written(cell)}</td>' for cell, kind in zip(row, kinds)]
+            parts += [f'<td{kind}>{for_page(cell)}</td>' for cell, kind in zip(row, kinds)]
         parts.append('</tr>\n</table>\n')
     return ''.join(parts) + '</body></html>\n'

@@ -2,37 +2,45 @@
 import argparse
 import dataclasses
 import functools
+from collections.abc import Mapping
+from typing import Optional
 
+from bitemporal_tools import command_line, options
 from bitemporal_tools.command_line import Fault, Parser, read_text
 from bitemporal_tools.days.csv_table import csv_table
 from bitemporal_tools.days.rows import DayTable, day_table
 from bitemporal_tools.reports import report
-from bitemporal_tools.reports.answer_tables import by_name, title_and_name
-from bitemporal_tools.reports.listing import add_option, named_catalog
+from bitemporal_tools.reports.answer_tables import Called, by_name, called, names_of
+from bitemporal_tools.reports.listing import TABLES, named_catalog
 from bitemporal_tools.reports.runs import catalog_and_report
 
+ABOUT = """
+REPORT is what `run` printed for SCRIPT; if it is left out or `-`, it is standard input. With
+--run SCRIPT is run for it, and with --store STORE over a store, which it may not change. WHICH is
+the number or the name of a statement.
 
-def add_options(parser: Parser) -> None:
-    parser.add_argument('script', metavar='SCRIPT')
-    parser.add_argument('report', metavar='REPORT', nargs='?')
-    add_runs(parser)
-
-
-def add_runs(parser: Parser) -> None:
-    parser.add_argument('--run', action='store_true', help='run SCRIPT, in place of a REPORT')
-    parser.add_argument('--store', metavar='STORE',
-                        help='run SCRIPT, which has queries alone, over this store')
-    add_option(parser)
+The exit status is 0; 1 if the report has a refused statement, written to standard error, or an
+answer that is asked for is missing; and 2 if the command line or a file is wrong, or the report
+isn't the script's."""
 
 
-def add_options_of_one(parser: Parser) -> None:
-    """The options of a tool that takes one answer, of a report or of a file."""
-    parser.add_argument('script', metavar='SCRIPT', nargs='?')
-    parser.add_argument('report', metavar='REPORT', nargs='?')
-    parser.add_argument('--only', metavar='WHICH', help='this answer, by number or name')
-    parser.add_argument('--csv', metavar='FILE', help='an answer that was written as CSV, in place'
-                        ' of SCRIPT and REPORT; -: standard input')
-    add_runs(parser)
+RUNS = {'--run': 'run SCRIPT, in place of a REPORT',
+        '--store STORE': 'run SCRIPT, which has queries alone, over this store', **TABLES}
+OPTIONS = {'SCRIPT': '', '[REPORT]': '', **RUNS}
+# The options of a tool that takes one answer, of a report or of a file.
+OPTIONS_OF_ONE = {
+    '[SCRIPT]': '', '[REPORT]': '', '--only WHICH': 'this answer, by number or name',
+    '--csv FILE': 'an answer that was written as CSV, in place of SCRIPT and REPORT; -: standard'
+                  ' input', **RUNS}
+
+
+def parser(name: str, description: Optional[str], words: Mapping[str, str] = OPTIONS,
+           usage: str = 'SCRIPT [REPORT] [OPTIONS]') -> Parser:
+    """The parser of a tool that takes these words, to which it adds its own."""
+    found = command_line.parser(name, description, usage)
+    found.epilog = ABOUT
+    options.add(found, words)
+    return found
 
 
 def read(name: str, wanted: argparse.Namespace) -> tuple[list[report.Statement], int]:
@@ -52,12 +60,9 @@ def read(name: str, wanted: argparse.Namespace) -> tuple[list[report.Statement],
 
 
 @dataclasses.dataclass
-class Asked:
+class Asked(Called):
     """A statement that answered, and what it is called."""
     statement: report.Statement
-    number: int
-    title: str
-    name: str
 
     @functools.cached_property
     def days(self) -> DayTable:
@@ -67,8 +72,7 @@ class Asked:
 def answers(name: str, wanted: argparse.Namespace) -> tuple[list[Asked], int]:
     """The answers by what they are called, and the exit status."""
     statements, status = read(name, wanted)
-    return [Asked(statement, statement.number, *title_and_name(statement))
-            for statement in statements], status
+    return [Asked(*called(statement), statement) for statement in statements], status
 
 
 def one(name: str, wanted: argparse.Namespace) -> tuple[DayTable, int]:
@@ -83,7 +87,6 @@ def one(name: str, wanted: argparse.Namespace) -> tuple[DayTable, int]:
     if wanted.only is not None:
         return by_name(found, wanted.only).days, status
     if len(found) != 1:
-        names = ', '.join(answer.name for answer in found) or 'none'
-        raise Fault(f'{len(found)} answers ({names}): choose one by --only',
+        raise Fault(f'{len(found)} answers ({names_of(found)}): choose one by --only',
                     status=1 if not found else 2)
     return found[0].days, status

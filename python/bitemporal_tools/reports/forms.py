@@ -5,32 +5,30 @@ import pathlib
 import re
 from collections.abc import Sequence
 
-from bitemporal_tools import command_line
+from bitemporal_tools import command_line, options
 from bitemporal_tools.command_line import Fault, Parser
 from bitemporal_tools.days.numbers import day_before
 from bitemporal_tools.reports import parquet
-from bitemporal_tools.reports.answer_tables import Table
+from bitemporal_tools.reports.answer_tables import Table, names_of
 from bitemporal_tools.reports.answer_texts import as_csv, as_page, as_table
+from bitemporal_tools.reports.report import LAST_DAY
 
-OPEN = '9999-12-31'
 BYTE_ORDER_MARK = '\ufeff'
 
 
 def add_options(parser: Parser) -> None:
     group = parser.add_argument_group('how it is written')
     form = group.add_mutually_exclusive_group()
-    form.add_argument('--table', action='store_true', help='aligned tables')
-    form.add_argument('--html', action='store_true', help='a web page')
-    form.add_argument('--into', metavar='FOLDER', help='a CSV file for each table')
-    group.add_argument('--parquet', action='store_true',
-                       help='with --into: files of Parquet, where pyarrow is installed')
-    group.add_argument('--scale', metavar='COLUMN=DIGITS', action='append', default=[],
-                       help='a number with decimals: PAY=2 writes 310000 as 3100.00')
-    group.add_argument('--inclusive', action='store_true',
-                       help='the last day on which a row holds, in place of the end')
-    group.add_argument('--excel', action='store_true',
-                       help='a byte order mark, by which spreadsheets know UTF-8')
-    group.add_argument('--raw', action='store_true', help='leave texts as they are')
+    options.add(form, {'--table': 'aligned tables', '--html': 'a web page',
+                       '--into FOLDER': 'a CSV file for each table'})
+    options.add(group, {'--scale COLUMN=DIGITS': 'a number with decimals: PAY=2 writes 310000 as'
+                                                 ' 3100.00'}, action='append', default=[])
+    options.add(group, {
+        '--parquet': 'with --into: files of Parquet, where pyarrow is installed',
+        '--inclusive': 'the last day on which a row holds, as last_day, in place of the end; an end'
+                       ' that is open stays 9999-12-31',
+        '--excel': 'a byte order mark, by which spreadsheets know UTF-8',
+        '--raw': 'leave texts as they are'})
 
 
 def judge(wanted: argparse.Namespace) -> None:
@@ -89,7 +87,7 @@ def last_days(table: Table) -> None:
         return
     table.columns[table.end] = 'last_day'
     for row in table.rows:
-        if row[table.end] != OPEN:
+        if row[table.end] != LAST_DAY:
             row[table.end] = day_before(row[table.end])
 
 
@@ -110,9 +108,8 @@ def write(tables: Sequence[Table], wanted: argparse.Namespace) -> None:
     elif len(tables) == 1:
         command_line.write_output(mark + as_csv(tables[0], wanted.raw))
     else:
-        names = ', '.join(table.name for table in tables) or 'none'
-        raise Fault(f'{len(tables)} answers ({names}): choose one by --only, or name a folder by'
-                    ' --into', status=1 if not tables else 2)
+        raise Fault(f'{len(tables)} answers ({names_of(tables)}): choose one by --only, or name a'
+                    ' folder by --into', status=1 if not tables else 2)
 
 
 def write_files(tables: Sequence[Table], wanted: argparse.Namespace, mark: str) -> None:

@@ -6,11 +6,15 @@ with the script needs them.
 import re
 from typing import Optional
 
-from bitemporal_tools.command_line import Fault, Parser, read_text
+from bitemporal_tools.command_line import Fault, read_text
 from bitemporal_tools.sql.catalog import Catalog
 from bitemporal_tools.sql.tree import Column, Create, Key, Name, Period, Reference
 
 from .records import BadRecord, records
+
+# The option that names such a list.
+TABLES = {'--tables LIST': 'what `bitemporal_file STORE --tables` printed, where the script was run'
+                           ' over a store'}
 
 
 def catalog_of(text: str) -> Catalog:
@@ -34,13 +38,10 @@ def catalog_of(text: str) -> Catalog:
 
 def add_column(create: Create, fields: list[str], _: dict[str, Create]) -> None:
     name, kind = fields
-    length = re.fullmatch(r'VARCHAR\((\d+)\)', kind)
-    if length:
-        create.columns.append(Column(Name(name), 'VARCHAR', int(length[1]), None))
-    elif kind.startswith('ROW '):
-        create.columns.append(Column(Name(name), 'TIMESTAMP', None, kind[len('ROW '):]))
-    else:
-        create.columns.append(Column(Name(name), kind, None, None))
+    found = re.fullmatch(r'VARCHAR\((\d+)\)|ROW (.*)', kind)
+    length, generated = found.groups() if found else (None, None)
+    kind = 'VARCHAR' if length else 'TIMESTAMP' if found else kind
+    create.columns.append(Column(Name(name), kind, int(length) if length else None, generated))
 
 
 def add_period(create: Create, fields: list[str], _: dict[str, Create]) -> None:
@@ -49,7 +50,7 @@ def add_period(create: Create, fields: list[str], _: dict[str, Create]) -> None:
 
 
 def add_key(create: Create, names: list[str], _: dict[str, Create]) -> None:
-    create.keys.append(Key([Name(name) for name in names], create.periods[0].name))
+    create.keys.append(Key(list(map(Name, names)), create.periods[0].name))
 
 
 def add_reference(create: Create, fields: list[str], found: dict[str, Create]) -> None:
@@ -60,11 +61,6 @@ def add_reference(create: Create, fields: list[str], found: dict[str, Create]) -
 
 
 ADDED = {'column': add_column, 'period': add_period, 'key': add_key, 'reference': add_reference}
-
-
-def add_option(parser: Parser) -> None:
-    parser.add_argument('--tables', metavar='LIST', help='what `bitemporal_file STORE --tables`'
-                        ' printed, where the script was run over a store')
 
 
 def named_catalog(path: Optional[str]) -> Catalog:

@@ -5,11 +5,13 @@ gives the statements of a script with them: each has its number, its tree (of bi
 the lines of the comment above it, and its text. A report that isn't the script's is
 NotOfScript.
 """
+import itertools
 import sys
-from collections.abc import Iterable, Sequence
+from collections.abc import Callable, Iterable, Iterator, Sequence
 from typing import Any, NamedTuple, NoReturn, Optional, Union
 
 from bitemporal_tools.command_line import Fault, read_text
+from bitemporal_tools.days.numbers import ordinal
 from bitemporal_tools.reports.records import BadRecord, record, records
 from bitemporal_tools.sql.catalog import Catalog, Table
 from bitemporal_tools.sql.lexis import lexed, pieces
@@ -52,11 +54,31 @@ class Answer(NamedTuple):
     kinds: list[str]
 
 
+class Version(NamedTuple):
+    """Values, the days on which they hold, as numbers, and the moments from which and to which
+    they were recorded."""
+    values: tuple[str, ...]
+    start: int
+    end: int
+    since: str
+    until: str
+
+
 class Versions(NamedTuple):
     """Rows of a table as lists of cells."""
     names: list[str]
     rows: list[list[str]]
     table: Table
+
+    def versions(self) -> Iterator[Version]:
+        """The rows by their parts."""
+        table, places = self.table, {name: place for place, name in enumerate(self.names)}
+        values = [places[name] for name in table.value_names]
+        start, end = places[table.period.start], places[table.period.end]
+        moments = {column.generated: places[column.name] for column in table.system}
+        for row in self.rows:
+            yield Version(tuple(row[place] for place in values), ordinal(row[start]),
+                          ordinal(row[end]), row[moments['START']], row[moments['END']])
 
 
 Outcome = Union[Done, Refused, Answer, Versions]
@@ -121,16 +143,10 @@ def comment_above(text: str, is_first: bool) -> list[str]:
     """The lines of the comment that ends just above a statement. `text` is what is between the
     statement before and this one. What is on the line of the statement before isn't of this one,
     and of several comments with empty lines between them the last is."""
-    lines = text.lstrip('\ufeff').split('\n')
-    if not is_first:
-        lines = lines[1:]
-    comment: list[str] = []
-    for line in reversed(lines[:-1]):
-        line = line.strip()
-        if not line.startswith('--'):
-            break
-        comment.insert(0, line.lstrip('-').strip())
-    return comment
+    lines = text.lstrip('\ufeff').split('\n')[not is_first:-1]
+    comment = itertools.takewhile(lambda line: line.startswith('--'),
+                                  map(str.strip, reversed(lines)))
+    return [line.lstrip('-').strip() for line in comment][::-1]
 
 
 def shown(fields: Sequence[str]) -> str:
@@ -168,10 +184,12 @@ class Reader:
                       f' {number}')
         self.fail(f'it has no outcome of statement {number}')
 
-    def take(self, kind: str, number: int, count: int) -> list[str]:
+    def take(self, kind: str, number: int, count: int,
+             is_right: Callable[..., bool] = lambda *fields: True) -> list[str]:
         """The fields of the next record after its kind and number, `count` of them."""
         fields = self.records[self.at] if self.at < len(self.records) else []
-        if fields[:2] != [kind, str(number)] or len(fields) != 2 + count:
+        if fields[:2] != [kind, str(number)] or len(fields) != 2 + count or \
+                not is_right(*fields[2:]):
             self.fail_at(number)
         self.at += 1
         return fields[2:]
@@ -200,21 +218,15 @@ class Reader:
             return self.answer(number, kinds_of(tree.query, catalog))
         if isinstance(tree, Stored) and kind == 'versions':
             return self.versions(number, catalog.tables.get(tree.table))
-        what, rows = self.take('done', number, 2)
         # `over_days` gives no number of rows that an UPDATE or a DELETE touched.
-        is_cut = rows == '' and isinstance(tree, (Delete, Update))
-        if what != DONE.get(type(tree)) or not (is_count(rows) or is_cut):
-            self.at -= 1
-            self.fail_at(number)
-        return Done(what, None if is_cut else int(rows))
+        may_lack = isinstance(tree, (Delete, Update))
+        what, rows = self.take('done', number, 2, lambda what, rows: what == DONE.get(type(tree))
+                               and (is_count(rows) or may_lack and rows == ''))
+        return Done(what, int(rows) if rows else None)
 
-    def size(self, kind: str, number: int) -> tuple[int, int]:
+    def size(self, kind: str, number: int) -> Iterator[int]:
         """The numbers of columns and rows that the next record promises."""
-        columns, rows = self.take(kind, number, 2)
-        if not (is_count(columns) and is_count(rows)):
-            self.at -= 1
-            self.fail_at(number)
-        return int(columns), int(rows)
+        return map(int, self.take(kind, number, 2, lambda *counts: all(map(is_count, counts))))
 
     def answer(self, number: int, kinds: list[str]) -> Answer:
         columns, count = self.size('answer', number)

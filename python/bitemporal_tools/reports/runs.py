@@ -15,8 +15,7 @@ from bitemporal_tools.stores.asking import ran
 def printed(name: str, *words: str) -> str:
     """The output of the program after these words. A fault if it ends otherwise than by refusals
     of statements."""
-    with open(os.devnull, 'rb') as nothing:
-        status, output, told = ran(name, list(words), nothing)
+    status, output, told = ran(name, list(words), b'')
     if status not in (0, 1):
         raise Fault(told.partition(': ')[2] or told or f'{name} ended with status {status}')
     return output.decode('utf-8')

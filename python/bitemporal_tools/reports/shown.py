@@ -3,6 +3,7 @@
 A spreadsheet takes a text that begins with `=`, `+`, `-` or `@`, also after a tab or a line end,
 for a formula, and runs it. A terminal takes control characters for commands.
 """
+import html
 import re
 import unicodedata
 
@@ -22,6 +23,11 @@ def escaped(found: 're.Match[str]') -> str:
 def for_terminal(text: str) -> str:
     """The text without control characters: each is written as its number."""
     return CONTROL.sub(escaped, text)
+
+
+def for_page(text: str) -> str:
+    """The text for a web page."""
+    return html.escape(for_terminal(text))
 
 
 def for_spreadsheet(text: str) -> str:

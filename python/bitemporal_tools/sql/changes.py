@@ -1,10 +1,12 @@
 """Faults of the names and values of AT, INSERT, UPDATE and DELETE."""
 from collections.abc import Iterator
 
+from bitemporal_tools.command_line import counted
+
 from .catalog import Catalog, Table
 from .refusals import Fault
-from .scope import (Scope, empty_period, guess, is_no_period, listed, mend_of_type, repeated,
-                    spelled, unknown_table)
+from .scope import (Scope, empty_period, guess, is_no_period, listed, mend_of_type, no_period,
+                    no_value, repeated, spelled, twice_in_list)
 from .tree import Assignment, At, Change, Column, Insert, Literal, Name, Row, Update
 
 
@@ -15,10 +17,7 @@ def faults_of_at(at: At, catalog: Catalog) -> Iterator[Fault]:
 
 
 def faults_of_insert(insert: Insert, catalog: Catalog) -> Iterator[Fault]:
-    table = catalog.tables.get(insert.table)
-    if table is None:
-        yield unknown_table(insert.table, catalog)
-        return
+    table = catalog.tables[insert.table]
     names = insert.columns or [column.name for column in table.given]
     yield from faults_of_column_list(insert.columns or [], table)
     missing = [column.name for column in table.given if column.name not in names]
@@ -33,9 +32,8 @@ def faults_of_column_list(names: list[Name], table: Table) -> Iterator[Fault]:
         if name not in table.by_name:
             yield unknown_column(name, table)
         elif table.by_name[name].generated:
-            yield Fault(27, name.offset, f'{name} is a system column of {table.name}.')
-    for name in repeated(names):
-        yield Fault(26, name.offset, f'{name} is in the list twice.')
+            yield no_value(name, table)
+    yield from twice_in_list(names)
 
 
 def unknown_column(name: Name, table: Table) -> Fault:
@@ -72,21 +70,13 @@ def type_of(column: Column) -> str:
     return f'VARCHAR({column.number})' if column.kind == 'VARCHAR' else column.kind
 
 
-def counted(count: int, word: str) -> str:
-    return f'{count} {word}' + 's' * (count != 1)
-
-
 def faults_of_change(change: Change, catalog: Catalog) -> Iterator[Fault]:
     """Of an UPDATE or a DELETE."""
-    table = catalog.tables.get(change.table)
-    if table is None:
-        yield unknown_table(change.table, catalog)
-        return
+    table = catalog.tables[change.table]
     if change.portion:
         period, start, end = change.portion
         if period != table.period.name:
-            yield Fault(24, period.offset, f'{period} is no period of {table.name}: its period is'
-                                           f' {table.period.name}.')
+            yield no_period(period, table)
         if is_no_period(start, end):
             yield empty_period(start, end)
     if isinstance(change, Update):
@@ -101,7 +91,6 @@ def faults_of_sets(sets: list[Assignment], table: Table) -> Iterator[Fault]:
         if name not in table.by_name:
             yield unknown_column(name, table)
         elif name not in table.value_names:
-            kind = 'system' if table.by_name[name].generated else 'period'
-            yield Fault(27, name.offset, f'{name} is a {kind} column of {table.name}.')
+            yield no_value(name, table)
         else:
             yield from faults_of_value(table.by_name[name], literal, '')

@@ -12,7 +12,6 @@ from .catalog import Catalog, Table
 from .tree import (And, Change, ColumnReference, Comparison, Condition, Delete, Insert, Literal,
                    Not, Or, Reference, Value)
 
-LAST = datetime.date.max
 SIGNS = {'=': operator.eq, '<>': operator.ne, '<': operator.lt, '<=': operator.le,
          '>': operator.gt, '>=': operator.ge}
 
@@ -101,30 +100,24 @@ class CurrentRows:
         """The rows that an UPDATE or a DELETE touches, and those in their place."""
         table = rows.table
         start, end = (tree.portion.start.value, tree.portion.end.value) if tree.portion else \
-            (datetime.date.min, LAST)
-        sets = [] if isinstance(tree, Delete) else \
-            [(table.place(name), literal.value) for name, literal in tree.sets]
+            (datetime.date.min, datetime.date.max)
+        sets = {} if isinstance(tree, Delete) else \
+            {table.place(name): literal.value for name, literal in tree.sets}
         gone, new = [], []
         for row in self.candidates(tree.where, rows):
             if not (row.start < end and start < row.end and holds(tree.where, row, table)):
                 continue
             gone.append(row)
-            values = list(row.values)
-            for place, value in sets:
-                values[place] = value
-            inner = row._replace(values=tuple(values), start=max(row.start, start),
-                                 end=min(row.end, end))
+            values = tuple(sets.get(place, value) for place, value in enumerate(row.values))
             new += [row._replace(end=start)] if row.start < start else []
-            new += [] if isinstance(tree, Delete) else [inner]
+            new += [] if isinstance(tree, Delete) else [CurrentRow(
+                values, max(row.start, start), min(row.end, end), row.offset)]
             new += [row._replace(start=end)] if end < row.end else []
         return gone, new
 
     def candidates(self, where: Optional[Condition], rows: Rows) -> list[CurrentRow]:
         """Rows among which are all that meet the condition."""
-        parts = where.conditions if isinstance(where, And) else [where] if where else []
-        equal = {part.left.name: part.right.value for part in parts
-                 if isinstance(part, Comparison) and part.sign == '='
-                 and isinstance(part.left, ColumnReference) and isinstance(part.right, Literal)}
+        equal = fixed(where)
         if all(name in equal for name in rows.table.key):
             return rows.of_key(tuple(equal[name] for name in rows.table.key))
         return rows.all()
@@ -169,6 +162,18 @@ def inserted(insert: Insert, table: Table) -> list[CurrentRow]:
     return [CurrentRow(tuple(row[name].value for name in table.value_names),
                        row[table.period.start].value, row[table.period.end].value, offset)
             for row, offset in cells]
+
+
+def fixed(condition: Optional[Condition]) -> dict[str, Value]:
+    """The columns that a condition compares by = with a literal, each with its value."""
+    if isinstance(condition, And):
+        return {column: value for part in condition.conditions
+                for column, value in fixed(part).items()}
+    if isinstance(condition, Comparison) and condition.sign == '=':
+        for side, other in ((condition.left, condition.right), (condition.right, condition.left)):
+            if isinstance(side, ColumnReference) and isinstance(other, Literal):
+                return {side.name: other.value}
+    return {}
 
 
 def holds(condition: Optional[Condition], row: CurrentRow, table: Table) -> bool:

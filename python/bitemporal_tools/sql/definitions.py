@@ -1,13 +1,13 @@
 """Faults of a CREATE TABLE."""
 from collections.abc import Iterator
-from typing import Optional
+from typing import Union
 
 from .catalog import Catalog, Table
 from .changes import type_of
 from .refusals import (MOST_CODE_POINTS, MOST_COLUMNS, MOST_PRECISION, MOST_REFERENCES, MOST_TABLES,
                        Fault)
-from .scope import guess, listed, repeated, unknown_table
-from .tree import Create, Name, Reference
+from .scope import guess, listed, no_period, repeated, twice_in_list, unknown_table
+from .tree import Create, Key, Name, Reference
 
 
 class Definition:
@@ -17,25 +17,19 @@ class Definition:
         self.create, self.catalog = create, catalog
         self.names = [column.name for column in create.columns]
         self.periods = [period.name for period in create.periods]
-        self.kinds: dict[str, str] = {}
-        self.generated: dict[str, Optional[str]] = {}
-        for column in create.columns:
-            self.kinds.setdefault(column.name, column.kind)
-            self.generated.setdefault(column.name, column.generated)
+        # Of two columns of one name the first.
+        self.kinds = {column.name: column.kind for column in reversed(create.columns)}
+        self.generated = {column.name: column.generated for column in reversed(create.columns)}
+        self.system = {column.name for column in create.columns if column.generated}
         self.bounds = [name for period in create.periods + create.systems
                        for name in (period.start, period.end)]
-        self.lists = [key.columns for key in create.keys] + \
-            [reference.columns for reference in create.references]
-        self.own_periods = [key.period for key in create.keys] + \
-            [reference.period for reference in create.references]
+        owned: list[Union[Key, Reference]] = [*create.keys, *create.references]
+        self.lists, self.own_periods = [one.columns for one in owned], [one.period for one in owned]
 
     def faults(self) -> Iterator[Fault]:
-        yield from self.faults_of_limits()
-        yield from self.faults_of_names()
-        yield from self.faults_of_lists()
-        yield from self.faults_of_numbers()
-        yield from self.faults_of_types()
-        yield from self.faults_of_periods()
+        for some in (self.faults_of_limits, self.faults_of_names, self.faults_of_lists,
+                     self.faults_of_numbers, self.faults_of_types, self.faults_of_periods):
+            yield from some()
         for reference in self.create.references:
             yield from self.faults_of_reference(reference)
 
@@ -69,15 +63,11 @@ class Definition:
     def faults_of_lists(self) -> Iterator[Fault]:
         """Of the table's own columns in keys and references."""
         for names in self.lists:
-            for name in repeated(names):
-                yield Fault(26, name.offset, f'{name} is in the list twice.')
+            yield from twice_in_list(names)
             for name in names:
-                if name in self.names and (name in self.bounds or self.is_generated(name)):
-                    kind = 'system' if self.is_generated(name) else 'period'
+                if name in self.system or name in self.names and name in self.bounds:
+                    kind = 'system' if name in self.system else 'period'
                     yield Fault(27, name.offset, f'{name} is a {kind} column.')
-
-    def is_generated(self, name: Name) -> bool:
-        return any(column.name == name and column.generated for column in self.create.columns)
 
     # 28, and its causes.
 
@@ -89,8 +79,7 @@ class Definition:
         create = self.create
         generated = [column.generated for column in create.columns]
         start, end = self.system_columns()
-        values = [name for name in self.names
-                  if name not in self.bounds and not self.is_generated(name)]
+        values = [name for name in self.names if name not in {*self.bounds, *self.system}]
         key = f'{(values + ["ENO"])[0]}, {(self.periods + ["EP"])[0]}'
         for count, what, element in (
                 (len(create.periods), 'application-time period', 'PERIOD FOR EP (S, E)'),
@@ -113,25 +102,26 @@ class Definition:
 
     def faults_of_types(self) -> Iterator[Fault]:
         for column in self.create.columns:
-            if column.kind == 'TIMESTAMP' and not column.generated:
-                yield self.wrong(column.name, f'{column.name} is a TIMESTAMP and not generated.'
-                                              ' Only the two system columns are TIMESTAMPs.')
-            if column.kind != 'TIMESTAMP' and column.generated:
-                yield self.wrong(column.name, f'{column.name} is generated and {type_of(column)}: a'
-                                              ' system column is a TIMESTAMP.')
-            if column.kind == 'VARCHAR' and not 1 <= (column.number or 0) <= MOST_CODE_POINTS:
-                yield self.wrong(column.name, f'{column.name} is {type_of(column)}: n is from 1 to'
-                                              f' {MOST_CODE_POINTS}.')
-            if column.kind == 'TIMESTAMP' and (column.number or 0) > MOST_PRECISION:
-                yield self.wrong(column.name, f'{column.name} is TIMESTAMP({column.number}): p is'
-                                              f' from 0 to {MOST_PRECISION}.')
+            kind, number = type_of(column), column.number or 0
+            is_moment = kind == 'TIMESTAMP'
+            for is_wrong, what in (
+                    (is_moment and not column.generated, 'a TIMESTAMP and not generated. Only the'
+                                                         ' two system columns are TIMESTAMPs'),
+                    (column.generated and not is_moment,
+                     f'generated and {kind}: a system column is a TIMESTAMP'),
+                    (column.kind == 'VARCHAR' and not 1 <= number <= MOST_CODE_POINTS,
+                     f'{kind}: n is from 1 to {MOST_CODE_POINTS}'),
+                    (is_moment and number > MOST_PRECISION,
+                     f'TIMESTAMP({number}): p is from 0 to {MOST_PRECISION}')):
+                if is_wrong:
+                    yield self.wrong(column.name, f'{column.name} is {what}.')
 
     def faults_of_periods(self) -> Iterator[Fault]:
         for period in self.create.periods:
             if period.start == period.end:
                 yield self.wrong(period.start, f'{period.name} has one column twice.')
             for name in (period.start, period.end):
-                if self.kinds.get(name, 'DATE') != 'DATE' or self.is_generated(name):
+                if self.kinds.get(name, 'DATE') != 'DATE' or name in self.system:
                     yield self.wrong(name, f'{name} is a column of the period {period.name} and no'
                                            ' plain DATE column.')
         for period in self.create.systems:
@@ -155,15 +145,12 @@ class Definition:
             if name not in parent.by_name:
                 yield Fault(24, name.offset, f'{parent.name} has no column {name}.'
                                              f'{guess(name, parent.by_name)}')
-        for name in repeated(reference.table_columns):
-            yield Fault(26, name.offset, f'{name} is in the list twice.')
+        yield from twice_in_list(reference.table_columns)
         if sorted(reference.table_columns) != sorted(parent.key):
             yield self.wrong(reference.table, f'The key of {parent.name} is {listed(parent.key)}: a'
                                               ' reference names these columns.')
         if reference.table_period != parent.period.name:
-            yield Fault(24, reference.table_period.offset,
-                        f'{reference.table_period} is no period of {parent.name}: its period is'
-                        f' {parent.period.name}.')
+            yield no_period(reference.table_period, parent)
         if len(reference.columns) != len(reference.table_columns):
             yield Fault(29, reference.table.offset,
                         f'The reference pairs {len(reference.columns)} columns with'
@@ -173,11 +160,7 @@ class Definition:
     def faults_of_pairs(self, reference: Reference, parent: Table) -> Iterator[Fault]:
         for own, other in zip(reference.columns, reference.table_columns):
             if own in self.kinds and other in parent.by_name:
-                kinds = self.kinds[own], parent.by_name[other].kind
-                if kinds[0] != kinds[1]:
-                    yield Fault(30, own.offset, f'{own} is {kinds[0]}, and {other} of {parent.name}'
-                                                f' is {kinds[1]}.')
-
-
-def faults_of_create(create: Create, catalog: Catalog) -> Iterator[Fault]:
-    return Definition(create, catalog).faults()
+                kind, other_kind = self.kinds[own], parent.by_name[other].kind
+                if kind != other_kind:
+                    yield Fault(30, own.offset, f'{own} is {kind}, and {other} of {parent.name} is'
+                                                f' {other_kind}.')

@@ -4,6 +4,7 @@ import re
 from typing import Optional
 
 from .lexis import Token
+from .tree import Value
 
 # As reports print them.
 FIRST_MOMENT, FOREVER = '0001-01-01 00:00:00', '9999-12-31 23:59:59.999999'
@@ -72,3 +73,15 @@ def number_of(digits: str, sign: int) -> Optional[int]:
 def text_of(token: Token) -> str:
     """The value of a text token."""
     return token.text[1:-1].replace("''", "'")
+
+
+def quoted(text: str) -> str:
+    """The literal of a text."""
+    return "'" + text.replace("'", "''") + "'"
+
+
+def literal(value: Value) -> str:
+    """The literal of a value."""
+    if isinstance(value, datetime.date):
+        return f"DATE '{value}'"
+    return quoted(value) if isinstance(value, str) else str(value)

@@ -49,16 +49,14 @@ class Parser(QueryParser):
     # Changes.
 
     def insert(self) -> Insert:
-        table, columns = self.name(), None
-        if self.takes('('):
-            columns = self.several(self.name)
-            self.needs(')')
+        table = self.name()
+        columns = self.takes_inside(lambda: self.several(self.name))
         self.needs('VALUES')
         return Insert(table, columns, self.several(self.row))
 
     def row(self) -> Row:
-        offset = self.offset()
-        return Row(self.inside(self.literal), offset)
+        offset = self.next.offset
+        return Row(self.inside(lambda: self.several(self.literal)), offset)
 
     def assignment(self) -> Assignment:
         name = self.name()
@@ -70,9 +68,7 @@ class Parser(QueryParser):
             return None
         period = self.name()
         self.needs('FROM')
-        start = self.date()
-        self.needs('TO')
-        return Portion(period, start, self.date())
+        return Portion(period, *self.two(self.date, 'TO'))
 
     # CREATE TABLE.
 
@@ -97,16 +93,12 @@ class Parser(QueryParser):
             create.columns.append(self.column_definition())
 
     def period(self, create: Create) -> None:
-        offset = self.offset()
+        offset = self.next.offset
         if self.takes('SYSTEM_TIME'):
             periods, name = create.systems, Name('SYSTEM_TIME', offset)
         else:
             periods, name = create.periods, self.name()
-        self.needs('(')
-        start = self.name()
-        self.needs(',')
-        periods.append(Period(name, start, self.name()))
-        self.needs(')')
+        periods.append(Period(name, *self.inside(lambda: self.two(self.name))))
 
     def key(self) -> Key:
         names = [self.name()]
@@ -137,16 +129,11 @@ class Parser(QueryParser):
 
     def column_type(self) -> tuple[str, Optional[int]]:
         if self.takes('VARCHAR') or self.takes('CHARACTER', 'VARYING'):
-            self.needs('(')
-            return 'VARCHAR', self.length()
+            return 'VARCHAR', self.inside(self.number).value
         if self.takes('TIMESTAMP'):
-            return 'TIMESTAMP', self.length() if self.takes('(') else None
+            precision = self.takes_inside(self.number)
+            return 'TIMESTAMP', precision.value if precision else None
         return self.needs_one_of('INTEGER', 'DATE'), None
-
-    def length(self) -> Optional[int]:
-        length: Optional[int] = self.number().value
-        self.needs(')')
-        return length
 
 
 def too_deep(tokens: list[Token]) -> Optional[Token]:

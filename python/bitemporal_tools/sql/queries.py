@@ -6,15 +6,12 @@ from .catalog import Catalog
 from .refusals import MOST_ITEMS, MOST_SET_OPERATORS, MOST_TABLES_OF_A_SELECT, Fault
 from .scope import Scope, repeated, unknown_table
 from .tree import (ColumnReference, Query, Select, Sequenced, SetOperators, Stored, known_as,
-                   selects, set_operators)
+                   selects)
 
 
 def faults_of_stored(stored: Stored, catalog: Catalog) -> Iterator[Fault]:
-    table = catalog.tables.get(stored.table)
-    if table is None:
-        yield unknown_table(stored.table, catalog)
-    else:
-        yield from Scope([(table.name, table)]).faults(stored.where)
+    table = catalog.tables[stored.table]
+    return Scope([(table.name, table)]).faults(stored.where)
 
 
 def scope_of(select: Select, catalog: Catalog, first: int = 0, last: Optional[int] = None) -> Scope:
@@ -25,7 +22,7 @@ def scope_of(select: Select, catalog: Catalog, first: int = 0, last: Optional[in
 
 def faults_of_sequenced(sequenced: Sequenced, catalog: Catalog) -> Iterator[Fault]:
     found = selects(sequenced.query)
-    yield from faults_of_numbers(sequenced.query, found)
+    yield from faults_of_numbers(found)
     unknown = [reference.table for select in found for reference in select.references
                if reference.table not in catalog.tables]
     if unknown:
@@ -36,19 +33,16 @@ def faults_of_sequenced(sequenced: Sequenced, catalog: Catalog) -> Iterator[Faul
     yield from faults_of_operands(sequenced.query, catalog)
 
 
-def faults_of_numbers(query: Query, found: list[Select]) -> Iterator[Fault]:
-    count = set_operators(query)
-    if count > MOST_SET_OPERATORS:
-        yield Fault(21, found[0].offset, f'The query has {count} set operators, and'
-                                         f' {MOST_SET_OPERATORS} are the most.')
+def faults_of_numbers(found: list[Select]) -> Iterator[Fault]:
+    """Of the SELECTs of a query, which has a set operator between each two of them."""
+    numbers = [(found[0], 'query', len(found) - 1, 'set operators', MOST_SET_OPERATORS)]
     for select in found:
-        items, tables = len(select.items), len(select.references)
-        if items > MOST_ITEMS:
-            yield Fault(21, select.offset, f'The select list has {items} items, and {MOST_ITEMS}'
-                                           ' are the most.')
-        if tables > MOST_TABLES_OF_A_SELECT:
-            yield Fault(21, select.offset, f'The SELECT has {tables} tables, and'
-                                           f' {MOST_TABLES_OF_A_SELECT} are the most.')
+        numbers += [(select, 'select list', len(select.items), 'items', MOST_ITEMS),
+                    (select, 'SELECT', len(select.references), 'tables', MOST_TABLES_OF_A_SELECT)]
+    for select, whole, count, parts, most in numbers:
+        if count > most:
+            yield Fault(21, select.offset, f'The {whole} has {count} {parts}, and {most} are the'
+                                           ' most.')
 
 
 def faults_of_select(select: Select, catalog: Catalog) -> Iterator[Fault]:

@@ -30,16 +30,15 @@ class QueryParser(Reader):
         """One side, or several with set operators of one strength between them."""
         first, rest = side(), list[Operand]()
         while True:
-            offset, operator = self.offset(), self.takes_one_of(*operators)
+            offset, operator = self.next.offset, self.takes_one_of(*operators)
             if not operator:
                 return SetOperators(first, rest) if rest else first
             self.takes('DISTINCT')
             rest.append(Operand(operator, side(), offset))
 
     def primary(self) -> Query:
-        if self.takes('('):
-            query = self.query()
-            self.needs(')')
+        query = self.takes_inside(self.query)
+        if query:
             return query
         offset = self.needs('SELECT', 'DISTINCT')
         items = self.several(self.item)
@@ -70,12 +69,10 @@ class QueryParser(Reader):
             return None
         if self.takes('AS', 'OF'):
             return Window('AS OF', self.moment(is_below_forever=True), None)
-        kind, between = ('FROM', 'TO') if self.takes('FROM') else ('BETWEEN', 'AND')
-        if kind == 'BETWEEN':
-            self.needs('BETWEEN')
-        start = self.moment()
-        self.needs(between)
-        return Window(kind, start, self.moment())
+        if self.takes('FROM'):
+            return Window('FROM', *self.two(self.moment, 'TO'))
+        self.needs('BETWEEN')
+        return Window('BETWEEN', *self.two(self.moment, 'AND'))
 
     def column(self) -> ColumnReference:
         return self.qualified(self.name())
@@ -101,14 +98,10 @@ class QueryParser(Reader):
         return Not(self.test()) if self.takes('NOT') else self.test()
 
     def test(self) -> Condition:
-        if self.takes('('):
-            condition = self.condition()
-            self.needs(')')
-            return condition
-        return self.predicate() or self.comparison()
+        return self.takes_inside(self.condition) or self.predicate() or self.comparison()
 
     def comparison(self) -> Comparison:
-        left, offset = self.operand(), self.offset()
+        left, offset = self.operand(), self.next.offset
         sign = self.needs_one_of(*COMPARISONS)
         return Comparison(left, sign, self.operand(), offset)
 
@@ -128,8 +121,7 @@ class QueryParser(Reader):
             if self.takes(*words):
                 return Predicate(span, ' '.join(words), self.span())
         if self.takes('CONTAINS'):
-            self.tests(self.at, 'DATE')
-            if self.at < len(self.tokens) and self.tokens[self.at].word == 'DATE':
+            if self.is_next('DATE'):
                 return ContainsDay(span, self.date())
             return Predicate(span, 'CONTAINS', self.span())
         if isinstance(span, Span):
@@ -141,11 +133,7 @@ class QueryParser(Reader):
         if not self.takes('PERIOD'):
             name = self.takes_name()
             return None if name is None else self.qualified(name)
-        self.needs('(')
-        start = self.date()
-        self.needs(',')
-        end = self.date()
-        self.needs(')')
+        start, end = self.inside(lambda: self.two(self.date))
         return Span(start, end)
 
     def span(self) -> Days:

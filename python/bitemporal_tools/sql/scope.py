@@ -41,6 +41,21 @@ def unknown_table(name: Name, catalog: Catalog) -> Fault:
                  f'There is no table {name}{there}{guess(name, catalog.tables)}')
 
 
+def no_period(name: Name, table: Table) -> Fault:
+    return Fault(24, name.offset,
+                 f'{name} is no period of {table.name}: its period is {table.period.name}.')
+
+
+def no_value(name: Name, table: Table) -> Fault:
+    """Of a system column, or one of the period."""
+    kind = 'system' if table.by_name[name].generated else 'period'
+    return Fault(27, name.offset, f'{name} is a {kind} column of {table.name}.')
+
+
+def twice_in_list(names: Sequence[Name]) -> Iterator[Fault]:
+    return (Fault(26, name.offset, f'{name} is in the list twice.') for name in repeated(names))
+
+
 def is_no_period(start: Optional[Literal], end: Optional[Literal]) -> bool:
     """Whether two literals are dates of which the first isn't before the second."""
     return (start is not None and end is not None and start.kind == end.kind == 'DATE'
@@ -105,9 +120,7 @@ class Scope:
                         f'{column.name} is a column of several tables: {mend}.')
         for _, table in found:
             if column.name not in table.value_names:
-                kind = 'system' if table.by_name[column.name].generated else 'period'
-                yield Fault(27, column.name.offset, f'{column.name} is a {kind} column of'
-                                                    f' {table.name}.')
+                yield no_value(column.name, table)
 
     def unknown(self, column: ColumnReference) -> Fault:
         """Why a name matches no column."""
@@ -133,10 +146,9 @@ class Scope:
                                                      f' and no column.')
         has = ' '.join(f'The value columns of {table.name} are {listed(table.value_names)}.'
                        for _, table in tables)
-        where = tables[0][1].name if len(tables) == 1 else 'None of the tables'
-        no = f'{where} has no column {column.name}.' if len(tables) == 1 else \
-            f'{where} has a column {column.name}.'
-        return Fault(24, column.name.offset, f'{no} {has}{guess(column.name, names)}')
+        no = f'{tables[0][1].name} has no' if len(tables) == 1 else 'None of the tables has a'
+        return Fault(24, column.name.offset,
+                     f'{no} column {column.name}. {has}{guess(column.name, names)}')
 
     def faults(self, condition: Optional[Condition]) -> Iterator[Fault]:
         if isinstance(condition, (Or, And)):
@@ -180,5 +192,4 @@ class Scope:
             yield Fault(24, span.qualifier.offset,
                         f'{span.qualifier} is no table here: {known} is.')
         elif span.name != table.period.name:
-            yield Fault(24, span.name.offset, f'{span.name} is no period of {table.name}: its'
-                                              f' period is {table.period.name}.')
+            yield no_period(span.name, table)

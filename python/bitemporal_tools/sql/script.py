@@ -4,17 +4,18 @@ from typing import Any, Optional
 
 from .catalog import Catalog
 from .changes import faults_of_at, faults_of_change, faults_of_insert
-from .definitions import faults_of_create
+from .definitions import Definition
 from .lexis import Token, lexed, pieces
 from .parser import parsed
 from .queries import faults_of_sequenced, faults_of_stored
 from .refusals import Fault
+from .scope import unknown_table
 from .tree import At, Create, Delete, Insert, Sequenced, Stored, Update
 
 JUDGES: dict[type, Callable[[Any, Catalog], Iterator[Fault]]] = {
-    At: faults_of_at, Create: faults_of_create, Insert: faults_of_insert,
-    Update: faults_of_change, Delete: faults_of_change, Stored: faults_of_stored,
-    Sequenced: faults_of_sequenced}
+    At: faults_of_at, Create: lambda tree, catalog: Definition(tree, catalog).faults(),
+    Insert: faults_of_insert, Update: faults_of_change, Delete: faults_of_change,
+    Stored: faults_of_stored, Sequenced: faults_of_sequenced}
 
 
 class Statement:
@@ -45,7 +46,9 @@ class Statement:
     def judge(self, catalog: Catalog) -> None:
         """Adds the faults of names and values over these tables."""
         if self.tree is not None and not self.faults:
-            self.faults = list(JUDGES[type(self.tree)](self.tree, catalog))
+            table = getattr(self.tree, 'table', None)
+            self.faults = list(JUDGES[type(self.tree)](self.tree, catalog)) \
+                if table is None or table in catalog.tables else [unknown_table(table, catalog)]
 
 
 def judge(text: str, catalog: Optional[Catalog] = None) -> list[Statement]:

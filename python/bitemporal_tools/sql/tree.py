@@ -235,11 +235,3 @@ def selects(query: Query) -> list[Select]:
         return [query]
     return [select for part in (query.first, *(operand.query for operand in query.rest))
             for select in selects(part)]
-
-
-def set_operators(query: Query) -> int:
-    """The number of set operators of a query."""
-    if isinstance(query, Select):
-        return 0
-    return set_operators(query.first) + sum(1 + set_operators(operand.query)
-                                            for operand in query.rest)

@@ -7,7 +7,6 @@ section 11.
     writing        a new store, which gets its name once it is whole and judged
     asking         the program: what it says of a store, and its report of a script
     judgement      why the program refuses a new store
-    refused        the refusal that ends a tool
 
     states         what changed at each moment, and for which days of which key
     comparing      what only one of two histories has

@@ -1,12 +1,11 @@
 """Asks the program: what it says of a store in a file, and its report of a script."""
 import os
 import shutil
-import subprocess
 import tempfile
 from collections.abc import Iterable
-from typing import IO
+from typing import IO, Union
 
-from bitemporal_tools import program
+from bitemporal_tools import engine_session
 from bitemporal_tools.command_line import Fault
 from bitemporal_tools.reports.records import records
 
@@ -15,22 +14,16 @@ BAD_STORE = '60 BadStore'
 MEMORY, ROOM = '/dev/shm', 4
 
 
-def ran(name: str, words: list[str], given: IO[bytes]) -> tuple[int, bytes, str]:
+def ran(name: str, words: list[str], given: Union[bytes, IO[bytes]]) -> tuple[int, bytes, str]:
     """The status, the output and the last line on standard error of the program by a name."""
-    path = program.path(name)
-    try:
-        done = subprocess.run([name, *words], executable=path, stdin=given, check=False,
-                              stdout=subprocess.PIPE, stderr=subprocess.PIPE)
-    except OSError as error:
-        raise Fault(f'cannot run {path}: {error.strerror}') from None
+    done = engine_session.ran(name, words, given)
     lines = done.stderr.decode('utf-8', 'replace').splitlines() or ['']
     return done.returncode, done.stdout, lines[-1]
 
 
 def refusal_to_open(store: str) -> str:
     """Why the program does not open a store, in its own words; an empty text if it does."""
-    with open(os.devnull, 'rb') as nothing:
-        status, _, told = ran('bitemporal_file', [store, '--tables'], nothing)
+    status, _, told = ran('bitemporal_file', [store, '--tables'], b'')
     if not status:
         return ''
     return told.partition(': ')[2] or told or f'the program ended with status {status}'
@@ -53,20 +46,13 @@ def report(statements: Iterable[str], store: str) -> list[list[str]]:
         return report_of_file(script, store)
 
 
-def report_in_memory(script: str) -> list[list[str]]:
-    """The records of a script, which is run without a store."""
-    with tempfile.TemporaryFile() as file:
-        file.write(script.encode('utf-8'))
-        file.seek(0)
-        return read_report(*ran('bitemporal', ['run'], file))
-
-
 def report_of_file(script: IO[bytes], store: str) -> list[list[str]]:
     """The records of a session over a store, which is sent a script from its beginning on."""
     return read_report(*ran('bitemporal_file', [store], script))
 
 
 def read_report(status: int, output: bytes, told: str) -> list[list[str]]:
+    """The records of a run that has come to its end."""
     if status not in (0, 1):
         raise Fault(told or f'the program ended with status {status}')
     return list(records(output.decode('utf-8')))

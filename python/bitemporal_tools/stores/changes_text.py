@@ -1,9 +1,11 @@
 """Statements that change rows, from versions as a store has them."""
+import itertools
 from collections.abc import Iterable, Iterator, Sequence
 
+from bitemporal_tools.sql.literals import literal
 from bitemporal_tools.sql.refusals import MOST_TOKENS
 from bitemporal_tools.stores.reading import Version
-from bitemporal_tools.stores.spelling import day_literal, literal, parts_of, value_of
+from bitemporal_tools.stores.spelling import day_literal, parts_of, value_of
 from bitemporal_tools.stores.tables import Table
 
 # A literal has at most two tokens, and a comma or a parenthesis is after it.
@@ -26,26 +28,16 @@ class Inserts:
         given = [column.name for column in table.columns if not column.is_system]
         tokens = TOKENS_OF_A_VALUE * len(given) + TOKENS_OF_A_ROW
         self.most = max(1, min(most, (MOST_TOKENS - TOKENS_OF_A_HEAD) // tokens))
-        # Of each column its place among the values, or which end of the period it is.
-        values = table.value_names
-        self.places = [values.index(name) if name in values else -1 if name == table.start else -2
-                       for name in given]
+        self.places = list(map(table.fields.index, given))
 
     def batches(self, rows: Iterable[Version]) -> Iterator[list[Version]]:
-        batch: list[Version] = []
-        for row in rows:
-            batch.append(row)
-            if len(batch) == self.most:
-                yield batch
-                batch = []
-        if batch:
-            yield batch
+        left = iter(rows)
+        return iter(lambda: list(itertools.islice(left, self.most)), [])
 
     def tuple(self, row: Version) -> str:
-        parts = parts_of(row.values)
-        days = (day_literal(row.end), day_literal(row.start))
-        return '(' + ', '.join(literal(value_of(parts[place])) if place >= 0 else days[place]
-                               for place in self.places) + ')'
+        cells = [literal(value_of(part)) for part in parts_of(row.values)]
+        cells += day_literal(row.start), day_literal(row.end)
+        return f'({", ".join(cells[place] for place in self.places)})'
 
     def statement(self, rows: Iterable[Version]) -> str:
         tuples = ',\n '.join(map(self.tuple, rows))

@@ -1,7 +1,7 @@
 """The history of a store as a folder of texts, and back.
 
-    dump.csv     the version of this form, the clock, and for each table its number, name, file and
-                 how many versions it has
+    dump.csv     the version of this form, the clock, for each table its number, name, file and how
+                 many versions it has, and the sum of the history, as --verify prints it
     tables.sql   the CREATE TABLE statements, in the order of the numbers
     NAME.csv     the versions of a table, as `SELECT *` through a window over all moments reports
                  them: the columns of CREATE TABLE in a first line, then a line for each version, in
@@ -9,9 +9,10 @@
 
 The texts are UTF-8 and CSV as a report is. Equal histories make equal folders, byte for byte.
 """
+import hashlib
 import pathlib
 from collections.abc import Callable, Iterator, Sequence
-from typing import BinaryIO, NamedTuple, Optional
+from typing import BinaryIO, NamedTuple
 
 from bitemporal_tools.command_line import Fault, read_text
 from bitemporal_tools.reports.records import BadRecord, record, records
@@ -24,14 +25,13 @@ from bitemporal_tools.stores.reading import Store, Version
 from bitemporal_tools.stores.spelling import (DATE, EPOCH, FOREVER, INTEGER, bytes_of_value,
                                               cell_of, day_of, day_text, moment_of, moment_text,
                                               parts_of)
-from bitemporal_tools.stores.tables import (NO_PRECISION, ROW_END, ROW_START, VARCHAR, Column,
-                                            Reference, Table, create_tables)
+from bitemporal_tools.stores.tables import (KINDS, NO_PRECISION, ROW_END, ROW_START, VARCHAR,
+                                            Column, Reference, Table, create_tables, definition)
 
-FORM = '1'
+FORMS = '1', '2'  # the first has no sum
 HEAD, TABLES = 'dump.csv', 'tables.sql'
 # A name of a file may be shorter than the name of a table.
 LONGEST_NAME = 200
-KINDS = {'INTEGER': INTEGER, 'DATE': DATE, 'VARCHAR': VARCHAR}
 
 
 def file_name(number: int, table: Table) -> str:
@@ -46,10 +46,7 @@ class Cells:
     """The cells of the versions of a table, in the order of its columns."""
 
     def __init__(self, table: Table) -> None:
-        values, ends = table.value_names, [table.start, table.end, table.system(ROW_START),
-                                           table.system(ROW_END)]
-        self.places = [values.index(name) if name in values else len(values) + ends.index(name)
-                       for name in table.names]
+        self.places = list(map(table.fields.index, table.names))
 
     def of(self, version: Version) -> list[str]:
         cells = [*map(cell_of, parts_of(version.values)), day_text(version.start),
@@ -60,22 +57,44 @@ class Cells:
         return str(record(self.of(version))).encode('utf-8')
 
 
-def lines(store: Store, number: int) -> Iterator[bytes]:
-    """The file of a table: the names of its columns, and its versions."""
+class Sum:
+    """The sum of a history, to which its versions are added, after the number of each table's."""
+
+    def __init__(self, clock: int, tables: Sequence[Table]) -> None:
+        self.md5 = hashlib.md5()
+        self.add(clock, len(tables), *(definition(table, tables) for table in tables))
+
+    def add(self, *parts: 'int | bytes') -> None:
+        for part in parts:
+            if isinstance(part, bytes):
+                self.md5.update(len(part).to_bytes(8, 'big') + part)
+            else:
+                self.md5.update(part.to_bytes(8, 'big', signed=True))
+
+    def each(self, versions: Iterator[Version]) -> Iterator[Version]:
+        for version in versions:
+            self.add(*version)
+            yield version
+
+
+def lines(store: Store, number: int, total: Sum) -> Iterator[bytes]:
+    """The file of a table: the names of its columns, and its versions, which the sum gets."""
     table = store.tables[number - 1]
     yield str(record(table.names)).encode('utf-8')
-    yield from map(Cells(table).line, store.versions(number))
+    yield from map(Cells(table).line, total.each(store.versions(number)))
 
 
 def write(store: Store, folder: str) -> None:
     """Writes the history of a store into a folder that exists."""
-    top = pathlib.Path(folder)
-    head = [['bitemporal dump', FORM], ['clock', moment_text(store.clock)]]
+    top, total = pathlib.Path(folder), Sum(store.clock, store.tables)
+    head = [['bitemporal dump', FORMS[-1]], ['clock', moment_text(store.clock)]]
     for number, (table, count) in enumerate(zip(store.tables, store.counts()), 1):
         name = file_name(number, table)
         head.append(['table', str(number), table.name, name, str(count)])
+        total.add(count)
         with open(top / name, 'wb') as file:
-            file.writelines(lines(store, number))
+            file.writelines(lines(store, number, total))
+    head.append(['sum', total.md5.hexdigest()])
     (top / TABLES).write_bytes(create_tables(store.tables).encode('utf-8'))
     (top / HEAD).write_bytes(''.join(map(record, head)).encode('utf-8'))
 
@@ -97,10 +116,11 @@ class Dump:
         self.head = str(self.folder / HEAD)
         try:
             (kind, form), (_, clock), *listed = records(read_text(self.head))
-            if kind != 'bitemporal dump':
+            word, self.sum = listed.pop() if form == FORMS[-1] else ['sum', '']
+            if (kind, word) != ('bitemporal dump', 'sum'):
                 raise ValueError
-            if form != FORM:
-                raise Fault(f'{self.head} is of the form {form}, and {FORM} is known')
+            if form not in FORMS:
+                raise Fault(f'{self.head} is of the form {form}, and {FORMS[-1]} is the last known')
             tables = tables_of(self.folder / TABLES)
             if [row[2] for row in listed] != [table.name for table in tables]:
                 raise Fault(f'{self.head} lists other tables than {self.folder / TABLES} has')
@@ -115,13 +135,18 @@ class Dump:
 
     def versions(self) -> Iterator[tuple[int, Version]]:
         """All versions, with the numbers of their tables."""
+        total = Sum(self.clock, [listed.table for listed in self.tables])
         for number, (table, path, count) in enumerate(self.tables, 1):
             found = 0
-            for version in VersionFile(table, path, self.clock).versions():
+            total.add(count)
+            for version in total.each(VersionFile(table, path, self.clock).versions()):
                 found += 1
                 yield number, version
             if found != count:
                 raise Fault(f'{path} has {found} versions, and {self.head} says {count}')
+        if self.sum not in ('', total.md5.hexdigest()):
+            raise Fault(f'{self.folder} was edited: {self.head} says the sum {self.sum}, and that'
+                        f' of the texts is {total.md5.hexdigest()}')
 
 
 def tables_of(path: pathlib.Path) -> list[Table]:
@@ -141,20 +166,16 @@ def tables_of(path: pathlib.Path) -> list[Table]:
 
 def table_of(parsed: Parsed) -> Table:
     """The table that a CREATE TABLE makes."""
-    columns = tuple(column_of(str(name), kind, number, generated)
-                    for name, kind, number, generated in parsed.columns)
+    columns = tuple(
+        Column(str(name), KINDS[kind], number or 0) if not generated else
+        Column(str(name), ROW_START if generated == 'START' else ROW_END,
+               NO_PRECISION if number is None else number)
+        for name, kind, number, generated in parsed.columns)
     period = parsed.period
     return Table(str(parsed.name), columns, str(period.name), str(period.start), str(period.end),
                  tuple(map(str, parsed.key)), tuple(
                      Reference(str(one.table), tuple(map(str, one.columns)),
                                tuple(map(str, one.table_columns))) for one in parsed.references))
-
-
-def column_of(name: str, kind: str, number: Optional[int], generated: Optional[str]) -> Column:
-    if generated:
-        return Column(name, ROW_START if generated == 'START' else ROW_END,
-                      NO_PRECISION if number is None else number)
-    return Column(name, KINDS[kind], number or 0)
 
 
 class BadCell(Exception):
@@ -167,9 +188,7 @@ class VersionFile:
     def __init__(self, table: Table, path: pathlib.Path, clock: int) -> None:
         self.table, self.path, self.clock = table, path, clock
         self.readers = [reader_of(column) for column in table.values]
-        self.places = [table.names.index(name) for name in table.value_names]
-        self.others = [table.names.index(name) for name in (
-            table.start, table.end, table.system(ROW_START), table.system(ROW_END))]
+        self.places = list(map(table.names.index, table.fields))
 
     def versions(self) -> Iterator[Version]:
         try:
@@ -193,8 +212,9 @@ class VersionFile:
         if len(cells) != len(self.table.columns):
             raise BadCell(f'{len(cells)} cells, and {self.table.name} has'
                           f' {len(self.table.columns)} columns')
-        values = b''.join([read(cells[place]) for read, place in zip(self.readers, self.places)])
-        start, end, since, until = (cells[place] for place in self.others)
+        cells = [cells[place] for place in self.places]
+        values = b''.join([read(cell) for read, cell in zip(self.readers, cells)])
+        start, end, since, until = cells[-4:]
         version = Version(values, day(start), day(end), moment(since), moment(until))
         if version.start >= version.end:
             raise BadCell(f'the period ends on {end}, and begins on {start}')

@@ -9,17 +9,18 @@ rows, they are deleted and inserted as they are to be.
 import bisect
 import itertools
 import pathlib
-from collections.abc import Iterable, Iterator
+from collections.abc import Iterator
 from typing import BinaryIO, NamedTuple, Optional
 
-from bitemporal_tools.command_line import counted
+from bitemporal_tools.command_line import Fault, counted
+from bitemporal_tools.days.stretches import stretches
+from bitemporal_tools.sql.literals import literal
 from bitemporal_tools.stores import asking, reading
 from bitemporal_tools.stores.changes_text import Inserts, conditions
 from bitemporal_tools.stores.comparing import differing_versions
 from bitemporal_tools.stores.reading import Store, Version
-from bitemporal_tools.stores.refused import Refused
-from bitemporal_tools.stores.spelling import (FIRST_MOMENT, FOREVER, day_literal, literal,
-                                              moment_text, parts_of, value_of)
+from bitemporal_tools.stores.spelling import (FIRST_MOMENT, FOREVER, day_literal, moment_text,
+                                              parts_of, value_of)
 from bitemporal_tools.stores.states import Changes, KeyChange, Segment, moments, segments
 from bitemporal_tools.stores.tables import Table, create_table
 
@@ -83,7 +84,8 @@ class TwoRows(Exception):
 
 def touching_plan(change: KeyChange) -> Plan:
     """Each row that begins is written, if days of it were held by an UPDATE before."""
-    plan, held = Plan([], [], [], []), joined_days(change.ended)
+    plan = Plan([], [], [], [])
+    held = stretches((row.start, row.end) for row in change.ended)
     for segment in segments(change):
         if not segment.after or not segment.before:
             add_segment(plan, segment)
@@ -93,17 +95,6 @@ def touching_plan(change: KeyChange) -> Plan:
             if first < last:
                 plan.updated.append(Portion(row, first, last, row.values))
     return plan
-
-
-def joined_days(rows: Iterable[Version]) -> list[tuple[int, int]]:
-    """The days of rows as stretches without a gap."""
-    found: list[tuple[int, int]] = []
-    for row in sorted(rows, key=lambda row: row.start):
-        if found and found[-1][1] >= row.start:
-            found[-1] = found[-1][0], max(found[-1][1], row.end)
-        else:
-            found.append((row.start, row.end))
-    return found
 
 
 def makes(plan: Plan, change: KeyChange) -> bool:
@@ -157,30 +148,18 @@ class Writer:
         return Plan(*(list(itertools.chain.from_iterable(parts)) for parts in zip(*plans))) \
             if plans else Plan([], [], [], [])
 
-    def insert(self, rows: Iterable[Version]) -> Iterator[str]:
-        return map(self.inserts.statement, self.inserts.batches(rows))
-
     def portion(self, portion: Portion) -> str:
-        return (f'FOR PORTION OF {self.table.period} FROM {day_literal(portion.start)} TO'
-                f' {day_literal(portion.end)}')
-
-    def where(self, portion: Portion) -> str:
-        return f' WHERE {conditions(self.table, self.table.key, portion.row)}'
-
-    def delete(self, portions: Iterable[Portion]) -> Iterator[str]:
-        for portion in portions:
-            yield f'DELETE FROM {self.table.name} {self.portion(portion)}\n{self.where(portion)};\n'
-
-    def update(self, portions: Iterable[Portion]) -> Iterator[str]:
-        for portion in portions:
-            after = parts_of(portion.after or b'')
-            before = parts_of(portion.row.values)
-            sets = [(name, after[place]) for name, place in
-                    zip(self.others, self.table.places(self.others))
-                    if portion.row.values == portion.after or after[place] != before[place]]
-            shown = ', '.join(f'{name} = {literal(value_of(part))}' for name, part in sets)
-            yield (f'UPDATE {self.table.name} {self.portion(portion)}\n SET {shown}'
-                   f'{self.where(portion)};\n')
+        """The statement of a portion: a DELETE, or an UPDATE of what differs."""
+        days = (f'{self.table.name} FOR PORTION OF {self.table.period} FROM'
+                f' {day_literal(portion.start)} TO {day_literal(portion.end)}\n')
+        where = f' WHERE {conditions(self.table, self.table.key, portion.row)};\n'
+        if portion.after is None:
+            return f'DELETE FROM {days}{where}'
+        after, before = parts_of(portion.after), parts_of(portion.row.values)
+        shown = ', '.join(f'{name} = {literal(value_of(after[place]))}' for name, place in
+                          zip(self.others, self.table.places(self.others))
+                          if after == before or after[place] != before[place])
+        return f'UPDATE {days} SET {shown}{where}'
 
 
 class Script:
@@ -194,8 +173,7 @@ class Script:
         self.writers = [Writer(table, table.name in parents) for table in store.tables]
 
     def statements(self) -> Iterator[str]:
-        for statement in self.in_turn():
-            self.count += 1
+        for self.count, statement in enumerate(self.in_turn(), 1):
             yield statement
 
     def in_turn(self) -> Iterator[str]:
@@ -216,16 +194,16 @@ class Script:
             plans = [(writer, writer.plans(changes[number]))
                      for number, writer in enumerate(self.writers, 1)]
         except TwoRows:
-            raise Refused(f'no statements make what is recorded at {moment_text(moment)}: two rows'
-                          ' of one key hold on a day') from None
+            raise Fault(f'no statements make what is recorded at {moment_text(moment)}: two rows of'
+                        ' one key hold on a day', 1) from None
         for writer, plan in plans:
-            yield from writer.delete(plan.replaced)
+            yield from map(writer.portion, plan.replaced)
         for writer, plan in plans:
-            yield from writer.insert(plan.inserted)
+            yield from map(writer.inserts.statement, writer.inserts.batches(plan.inserted))
         for writer, plan in plans:
-            yield from writer.update(plan.updated)
+            yield from map(writer.portion, plan.updated)
         for writer, plan in reversed(plans):
-            yield from writer.delete(plan.deleted)
+            yield from map(writer.portion, plan.deleted)
 
     def moment_of(self, number: int) -> str:
         """The moment of the statement of a number, from 1."""
@@ -248,9 +226,9 @@ def write_checked(store: Store, file: BinaryIO) -> str:
         made = str(pathlib.Path(folder, 'store'))
         for record in asking.report_of_file(file, made):
             if record[0] == 'refused':
-                raise Refused(f'no statements make what is recorded at'
-                              f' {script.moment_of(int(record[1]))}: statement {record[1]} would be'
-                              f' refused by {" ".join(record[2:]).strip()}')
+                raise Fault(f'no statements make what is recorded at'
+                            f' {script.moment_of(int(record[1]))}: statement {record[1]} would be'
+                            f' refused by {" ".join(record[2:]).strip()}', 1)
         with reading.opened(made) as other:
             count = differing_versions(store, other)
     if not count:

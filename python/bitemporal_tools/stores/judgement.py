@@ -12,9 +12,8 @@ from bitemporal_tools.sql.script import judge
 from bitemporal_tools.stores import asking
 from bitemporal_tools.stores.changes_text import Inserts, conditions
 from bitemporal_tools.stores.reading import Store, Version
-from bitemporal_tools.stores.spelling import (cell_of, day_text, moment_text, parts_of, value_of,
-                                              day_of)
-from bitemporal_tools.stores.tables import Reference, Table, create_table, create_tables
+from bitemporal_tools.stores.spelling import cell_of, day_of, day_text, moment_text, parts_of
+from bitemporal_tools.stores.tables import Table, create_table, create_tables
 
 MOST_CAUSES, ROWS_OF_A_BATCH = 5, 200
 KEY_OVERLAP, PERIOD_REFERENCE = '42', '43'
@@ -22,18 +21,14 @@ KEY_OVERLAP, PERIOD_REFERENCE = '42', '43'
 
 def refused_definition(tables: Sequence[Table]) -> str:
     """Why the program refuses the first of the tables that it refuses, or an empty text."""
-    for record in asking.report_in_memory(create_tables(tables)):
+    script = create_tables(tables)
+    for record in asking.read_report(*asking.ran('bitemporal', ['run'], script.encode('utf-8'))):
         if record[0] == 'refused':
             place, code, name = int(record[1]) - 1, record[2], record[3]
-            return f'{tables[place].name}: {code} {name}: {why(tables, place, int(code))}'
+            why = next((fault.why for fault in judge(script)[place].faults
+                        if fault.number == int(code)), create_table(tables[place], tables).strip())
+            return f'{tables[place].name}: {code} {name}: {why}'
     return ''
-
-
-def why(tables: Sequence[Table], place: int, code: int) -> str:
-    """The cause of a refused CREATE TABLE in a sentence."""
-    statement = judge(create_tables(tables))[place]
-    sentences: list[str] = [fault.why for fault in statement.faults if fault.number == code]
-    return sentences[0] if sentences else create_table(tables[place], tables).strip()
 
 
 def shown_row(table: Table, version: Version) -> str:
@@ -72,16 +67,12 @@ class Judgement:
                     + (f'\n  {shown_row(table, other)}' if other else ''))
         if code == PERIOD_REFERENCE:
             for reference in table.references:
-                key = self.parent_key(table, row, reference)
+                key = conditions(table, reference.columns, row, reference.parent_columns)
                 parent = self.store.tables[self.store.number(reference.parent) - 1]
                 if not self.row_on(parent, key, day):
                     return (f'{table.name}: {reference.parent} has no row with {key} on {day},'
                             f' and a row refers to it:\n  {shown}')
         return f'{table.name}: the program refuses this row by {code}:\n  {shown}'
-
-    def parent_key(self, table: Table, row: Version, reference: Reference) -> str:
-        """The condition that the parent of a row meets."""
-        return conditions(table, reference.columns, row, reference.parent_columns)
 
     def row_on(self, table: Table, condition: str, day: str) -> Optional[Version]:
         """The row of a table that is in the asked store on a day, as the store itself has it."""
@@ -93,7 +84,7 @@ class Judgement:
         given = [cells[table.names.index(name)] for name in table.value_names]
         return next(version for version in self.store.current(at)
                     if version.start <= (number or 0) < version.end
-                    and [str(value_of(part)) for part in parts_of(version.values)] == given)
+                    and list(map(cell_of, parts_of(version.values))) == given)
 
 
 def causes(store: Store) -> list[str]:

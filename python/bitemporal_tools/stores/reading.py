@@ -59,27 +59,25 @@ class Store:
                 if number != place:
                     raise BadBytes
                 self.tables.append(table_of(data, self.tables))
+            if self.form not in FORMS:
+                raise Fault(f'{path} is a store of form {self.form}, and forms 1 and 2 are known')
+            [(count,)] = connection.execute(
+                'SELECT (SELECT count(*) FROM bt_version WHERE tab < 1)'
+                ' + (SELECT count(*) FROM bt_version WHERE tab > ?)', [len(self.tables)])
         except (BadBytes, ValueError, sqlite3.Error) as error:
             raise not_good(path, error) from None
-        if self.form not in FORMS:
-            raise Fault(f'{path} is a store of form {self.form}, and forms 1 and 2 are known')
+        if count:
+            raise Fault(f'{path} holds no good store: it has versions of no table')
         self.clock: int = clock * MICROSECONDS if self.form == 1 else clock
-        self.refuse_versions_of_no_table()
         until = 'se' if self.form == 2 else \
             f'CASE se WHEN {FOREVER_IN_SECONDS} THEN {FOREVER} ELSE se * {MICROSECONDS} END'
         since = 'ss' if self.form == 2 else f'ss * {MICROSECONDS}'
         self.columns = f'vals, s, e, {since}, {until}'
 
-    def refuse_versions_of_no_table(self) -> None:
-        tables = len(self.tables)
-        try:
-            [(count,)] = self.connection.execute(
-                'SELECT (SELECT count(*) FROM bt_version WHERE tab < 1)'
-                ' + (SELECT count(*) FROM bt_version WHERE tab > ?)', [tables])
-        except sqlite3.Error as error:
-            raise not_good(self.path, error) from None
-        if count:
-            raise Fault(f'{self.path} holds no good store: it has versions of no table')
+    @property
+    def mode(self) -> int:
+        """The rights of the file."""
+        return os.stat(self.path).st_mode & 0o777
 
     @property
     def size(self) -> int:
@@ -121,23 +119,21 @@ def not_good(path: str, error: Exception) -> Fault:
 
 
 @contextlib.contextmanager
-def opened(path: str) -> Iterator[Store]:
-    """The store in a file."""
+def opened(path: str, beside: str = '') -> Iterator[Store]:
+    """The store in a file. A copy of it that is made meanwhile is next to a file that is named."""
     with contextlib.ExitStack() as stack:
-        lock = stack.enter_context(open_file(path))
+        try:
+            lock = stack.enter_context(open(path, 'rb'))
+        except OSError as error:
+            raise Fault(f'cannot read {path}: {error.strerror}') from None
         lock_shared(lock, path)
-        file = path
-        if log_size(path) > LOG_OF_NOTHING:
-            file = copied(path, lock, stack.enter_context(tempfile.TemporaryDirectory()))
+        file, log = path, f'{path}-wal'
+        if os.path.exists(log) and os.path.getsize(log) > LOG_OF_NOTHING:
+            folder = tempfile.TemporaryDirectory(
+                '.part', dir=os.path.dirname(os.path.abspath(beside)) if beside else None)
+            file = copied(path, lock, stack.enter_context(folder))
         connection = stack.enter_context(contextlib.closing(connected(file)))
         yield Store(path, connection)
-
-
-def open_file(path: str) -> BinaryIO:
-    try:
-        return open(path, 'rb')
-    except OSError as error:
-        raise Fault(f'cannot read {path}: {error.strerror}') from None
 
 
 def lock_shared(file: BinaryIO, path: str) -> None:
@@ -150,16 +146,10 @@ def lock_shared(file: BinaryIO, path: str) -> None:
         raise Fault(f'another program has {path} open') from None
 
 
-def log_size(path: str) -> int:
-    try:
-        return os.stat(f'{path}-wal').st_size
-    except FileNotFoundError:
-        return 0
-
-
 def copied(path: str, file: BinaryIO, folder: str) -> str:
     """A copy of a store with the changes of its log taken in, by the program. The open file of the
     store is read, since its lock ends with any that is closed."""
+    from bitemporal_tools.stores import asking  # few runs of a tool come here
     copy = str(pathlib.Path(folder, 'store'))
     try:
         with open(copy, 'wb') as other:
@@ -167,7 +157,6 @@ def copied(path: str, file: BinaryIO, folder: str) -> str:
         shutil.copyfile(f'{path}-wal', f'{copy}-wal')
     except OSError as error:
         raise Fault(f'cannot copy {path} and its log: {error.strerror}') from None
-    from bitemporal_tools.stores import asking  # few runs of a tool come here
     why = asking.refusal_to_open(copy)
     if why:
         raise Fault(f'{path} with {path}-wal beside it is refused: {why}')

@@ -3,24 +3,22 @@
 A day is counted from 1970-01-01, which is 0; a moment in microseconds from the first of that day.
 """
 import datetime
-import re
 from collections.abc import Iterable, Iterator
-from typing import Optional, Union
+from typing import Optional, TypeVar, Union
 
 from bitemporal_tools.command_line import Fault
+from bitemporal_tools.sql import literals
 
 Value = Union[int, str, datetime.date]
+Kind = TypeVar('Kind', int, str)
 
 FOREVER = 253402300799999999
 FIRST_MOMENT = -62135596800000000
 MOST_INTEGER = 2 ** 63 - 1
 EPOCH = datetime.date(1970, 1, 1).toordinal()
-FIRST_DAY, LAST_DAY = 1 - EPOCH, datetime.date.max.toordinal() - EPOCH
-MICROSECONDS, SECONDS_OF_A_DAY = 1_000_000, 86_400
+MOMENT_0, MICROSECOND = datetime.datetime(1970, 1, 1), datetime.timedelta(microseconds=1)
+MICROSECONDS = 1_000_000
 INTEGER, VARCHAR, DATE = 1, 2, 3
-MOMENT = re.compile(r'(\d{4}-\d\d-\d\d) ([01]\d|2[0-3]):([0-5]\d):([0-5]\d)(?:\.(\d{1,6}))?',
-                    re.ASCII)
-DAY = re.compile(r'\d{4}-\d\d-\d\d', re.ASCII)
 
 
 class BadBytes(Fault):
@@ -91,20 +89,7 @@ def values_of(data: bytes) -> list[Value]:
 
 def cell_of(part: bytes) -> str:
     """The text of a value, as reports print it."""
-    return text_of(value_of(part))
-
-
-def text_of(value: Value) -> str:
-    return value.isoformat() if isinstance(value, datetime.date) else str(value)
-
-
-def literal(value: Value) -> str:
-    """The literal of a value in the language."""
-    if isinstance(value, datetime.date):
-        return f"DATE '{value.isoformat()}'"
-    if isinstance(value, int):
-        return str(value)
-    return "'" + value.replace("'", "''") + "'"
+    return str(value_of(part))
 
 
 # Days and moments.
@@ -115,12 +100,8 @@ def day_text(day: int) -> str:
 
 def day_of(text: str) -> Optional[int]:
     """The number of the day that a text YYYY-MM-DD names, or None."""
-    try:
-        if DAY.fullmatch(text):
-            return datetime.date.fromisoformat(text).toordinal() - EPOCH
-    except ValueError:
-        pass
-    return None
+    date = literals.date_of(text)
+    return date.toordinal() - EPOCH if date else None
 
 
 def day_literal(day: int) -> str:
@@ -129,39 +110,25 @@ def day_literal(day: int) -> str:
 
 def moment_text(moment: int) -> str:
     """A moment as reports print it: with six digits after a point if its fraction is not 0."""
-    seconds, fraction = divmod(moment, MICROSECONDS)
-    day, second = divmod(seconds, SECONDS_OF_A_DAY)
-    minute, second = divmod(second, 60)
-    text = f'{day_text(day)} {minute // 60:02}:{minute % 60:02}:{second:02}'
-    return f'{text}.{fraction:06}' if fraction else text
+    return (MOMENT_0 + moment * MICROSECOND).isoformat(' ')
 
 
 def moment_of(text: str) -> Optional[int]:
     """The moment that a text names, or None."""
-    found = MOMENT.fullmatch(text)
-    day = day_of(found[1]) if found else None
-    if found is None or day is None:
-        return None
-    hours, minutes, seconds = (int(found[place]) for place in (2, 3, 4))
-    whole = ((day * 24 + hours) * 60 + minutes) * 60 + seconds
-    return whole * MICROSECONDS + int((found[5] or '').ljust(6, '0'))
+    named = literals.moment_of(text)
+    return (datetime.datetime.fromisoformat(named) - MOMENT_0) // MICROSECOND if named else None
 
 
-class Numbers:
+class Reader:
     """Reads the values of a list from left to right."""
 
     def __init__(self, data: bytes) -> None:
         self.values: Iterator[Value] = iter(values_of(data))
 
-    def number(self) -> int:
+    def take(self, kind: 'type[Kind]') -> Kind:
+        """The next value, which has to be of a kind."""
         value = next(self.values, None)
-        if not isinstance(value, int):
-            raise BadBytes
-        return value
-
-    def text(self) -> str:
-        value = next(self.values, None)
-        if not isinstance(value, str):
+        if not isinstance(value, kind):
             raise BadBytes
         return value
 

@@ -28,11 +28,11 @@ class Segment(NamedTuple):
 Changes = dict[int, dict[bytes, KeyChange]]
 
 
-class Keys:
-    """The keys of the versions of a table, as bytes."""
+class Values:
+    """The values of versions of a table in some columns, as bytes."""
 
-    def __init__(self, table: Table) -> None:
-        self.places = table.places(table.key)
+    def __init__(self, table: Table, columns: Sequence[str]) -> None:
+        self.places = table.places(columns)
 
     def of(self, version: Version) -> bytes:
         parts = parts_of(version.values)
@@ -51,7 +51,8 @@ def events(store: Store, number: int) -> Iterable[tuple[int, int, bool, Version]
 
 def moments(store: Store, numbers: Sequence[int]) -> Iterator[tuple[int, Changes]]:
     """Each moment at which something changed in these tables, and what."""
-    keys = {number: Keys(store.tables[number - 1]) for number in numbers}
+    tables = {number: store.tables[number - 1] for number in numbers}
+    keys = {number: Values(table, table.key) for number, table in tables.items()}
     merged = heapq.merge(*(events(store, number) for number in numbers),
                          key=lambda event: event[0])
     for moment, group in itertools.groupby(merged, key=lambda event: event[0]):
@@ -65,9 +66,11 @@ def moments(store: Store, numbers: Sequence[int]) -> Iterator[tuple[int, Changes
 def segments(change: KeyChange) -> list[Segment]:
     """The days of a key on which its values differ before and after."""
     borders = sorted({day for rows in change for row in rows for day in (row.start, row.end)})
-    edges = [list(edges_of(rows)) for rows in change]
+    # The days on which rows start or end, in turn, the ends of a day first.
+    edges = [sorted(edge for row in rows for edge in (
+        (row.start, True, row.values), (row.end, False, row.values))) for rows in change]
     places, held = [0, 0], (list[bytes](), list[bytes]())
-    found = []
+    found: list[Segment] = []
     for start, end in zip(borders, borders[1:]):
         for side, rows in enumerate(held):
             while places[side] < len(edges[side]) and edges[side][places[side]][0] <= start:
@@ -76,22 +79,8 @@ def segments(change: KeyChange) -> list[Segment]:
                 places[side] += 1
         before, after = (tuple(sorted(rows)) for rows in held)
         if before != after:
+            # A segment that meets the one before it with the same values is one with it.
+            if found and found[-1].end == start and found[-1][2:] == (before, after):
+                start = found.pop().start
             found.append(Segment(start, end, before, after))
-    return joined(found)
-
-
-def edges_of(rows: Iterable[Version]) -> list[tuple[int, bool, bytes]]:
-    """The days on which rows start or end, in turn, the ends of a day first."""
-    return sorted(edge for row in rows for edge in (
-        (row.start, True, row.values), (row.end, False, row.values)))
-
-
-def joined(found: Iterable[Segment]) -> list[Segment]:
-    """Segments that meet with the same values, as one."""
-    result: list[Segment] = []
-    for segment in found:
-        if result and result[-1].end == segment.start and result[-1][2:] == segment[2:]:
-            result[-1] = result[-1]._replace(end=segment.end)
-        else:
-            result.append(segment)
-    return result
+    return found

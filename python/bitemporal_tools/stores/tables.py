@@ -7,7 +7,7 @@ from bitemporal_tools.stores.spelling import BadBytes, Value, bytes_of
 
 INTEGER, VARCHAR, DATE, ROW_START, ROW_END = 1, 2, 3, 4, 5
 NO_PRECISION = -1
-NAMES = {INTEGER: 'INTEGER', VARCHAR: 'VARCHAR', DATE: 'DATE'}
+KINDS = {'INTEGER': INTEGER, 'DATE': DATE, 'VARCHAR': VARCHAR}
 
 
 class Column(NamedTuple):
@@ -27,7 +27,8 @@ class Column(NamedTuple):
             precision = '' if self.number == NO_PRECISION else f'({self.number})'
             which = 'START' if self.kind == ROW_START else 'END'
             return f'TIMESTAMP{precision} GENERATED ALWAYS AS ROW {which}'
-        return f'VARCHAR({self.number})' if self.kind == VARCHAR else NAMES[self.kind]
+        return f'VARCHAR({self.number})' if self.kind == VARCHAR else \
+            'INTEGER' if self.kind == INTEGER else 'DATE'
 
 
 class Reference(NamedTuple):
@@ -64,6 +65,12 @@ class Table(NamedTuple):
     def value_names(self) -> list[str]:
         return [column.name for column in self.values]
 
+    @property
+    def fields(self) -> list[str]:
+        """The columns in the order in which a version has them."""
+        return [*self.value_names, self.start, self.end, self.system(ROW_START),
+                self.system(ROW_END)]
+
     def system(self, kind: int) -> str:
         """The name of the ROW START or the ROW END column."""
         [name] = [column.name for column in self.columns if column.kind == kind]
@@ -96,27 +103,27 @@ def definition(table: Table, tables: Sequence[Table]) -> bytes:
 
 def table_of(data: bytes, tables: Sequence[Table]) -> Table:
     """The table of a definition, after those before it."""
-    read = spelling.Numbers(data)
-    name = read.text()
-    columns = tuple(Column(read.text(), read.number(), read.number())
-                    for _ in range(read.number()))
+    read = spelling.Reader(data)
+    name = read.take(str)
+    columns = tuple(Column(read.take(str), read.take(int), read.take(int))
+                    for _ in range(read.take(int)))
     names = [column.name for column in columns]
-    period = read.text()
+    period = read.take(str)
 
     def named(among: Sequence[str]) -> str:
-        place = read.number()
+        place = read.take(int)
         if not 0 <= place < len(among):
             raise BadBytes
         return among[place]
 
     start, end = named(names), named(names)
-    key = tuple(named(names) for _ in range(read.number()))
+    key = tuple(named(names) for _ in range(read.take(int)))
     references = []
-    for _ in range(read.number()):
-        number = read.number()
+    for _ in range(read.take(int)):
+        number = read.take(int)
         if not 0 < number <= len(tables):
             raise BadBytes
-        parent, count = tables[number - 1], read.number()
+        parent, count = tables[number - 1], read.take(int)
         own = tuple(named(names) for _ in range(count))
         references.append(Reference(parent.name, own,
                                     tuple(named(parent.names) for _ in range(count))))
