@@ -1,6 +1,9 @@
 """Aggregates of PostgreSQL's that sqlite lacks: variances, standard deviations and percentiles."""
+import functools
 import math
 from typing import Any, Callable, Optional
+
+NUMBER_BYTES = 48  # of a number that is kept, sorted too
 
 
 class Spread:
@@ -29,14 +32,15 @@ class Spread:
 class Percentile:
     """The number below which a share of the numbers is, between two of them in proportion."""
 
-    def __init__(self) -> None:
-        self.share = 0.0
+    def __init__(self, add: Callable[[int], None]) -> None:
+        self.share, self.add = 0.0, add
         self.numbers: 'list[float]' = []
 
     def step(self, share: float, number: Optional[float]) -> None:
         """Takes a number."""
         self.share = share
         if number is not None:
+            self.add(NUMBER_BYTES)
             self.numbers.append(number)
 
     def finalize(self) -> Optional[float]:
@@ -48,12 +52,8 @@ class Percentile:
         return low + (high - low) * (place - math.floor(place))
 
 
-def spread(is_sample: bool, is_root: bool) -> Callable[[], Spread]:
-    return lambda: Spread(is_sample, is_root)
-
-
-AGGREGATES: 'dict[str, tuple[int, Callable[[], Any]]]' = {
-    'var_pop': (1, spread(False, False)), 'var_samp': (1, spread(True, False)),
-    'variance': (1, spread(True, False)), 'stddev_pop': (1, spread(False, True)),
-    'stddev_samp': (1, spread(True, True)), 'stddev': (1, spread(True, True)),
-    'percentile_cont': (2, Percentile)}
+AGGREGATES: 'dict[str, Callable[[], Any]]' = {
+    'var_pop': functools.partial(Spread, False, False),
+    'stddev_pop': functools.partial(Spread, False, True),
+    **dict.fromkeys(('variance', 'var_samp'), functools.partial(Spread, True, False)),
+    **dict.fromkeys(('stddev', 'stddev_samp'), functools.partial(Spread, True, True))}

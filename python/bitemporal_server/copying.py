@@ -1,28 +1,32 @@
 """COPY table FROM STDIN: the lines of a client as INSERTs of many rows each."""
 import csv
 import re
-from typing import Callable, Iterator, NamedTuple, Optional, Sequence
+from typing import Callable, Iterator, List, NamedTuple, Optional, Sequence, Tuple
 
 from bitemporal_tools.sql.catalog import Catalog, Table
-from bitemporal_tools.sql.lexis import Token
+from bitemporal_tools.sql.lexis import Token, lexed
 
-from . import values
+from . import lexis, values
+from .lexis import taken
 from .problems import SYNTAX, Problem
 
-COPY = re.compile(r'\s*COPY\s+(?:"?public"?\s*\.\s*)?"?(?P<table>\w+)"?\s*'
-                  r'(?:\((?P<columns>[^()]*)\))?'
-                  r'\s*FROM\s+STDIN\b\s*(?:WITH\b)?\s*(?P<options>.*?);?\s*\Z', re.I | re.S)
-OPTION = re.compile(r"\s*,?\s*(?P<name>\w+)(?:\s+AS\b)?\s*(?P<value>[eE]?'(?:[^']|'')*'|"
-                    r"(?:true|false|on|off|match|csv|text)\b)?", re.I)
-ESCAPES = {'b': '\b', 'f': '\f', 'n': '\n', 'r': '\r', 't': '\t', 'v': '\v'}
+ESCAPE = re.compile(r'\\(.)')
+ESCAPES = {**lexis.ESCAPES, 'v': '\v'}
+HEADERS = {'TRUE': True, 'ON': True, '1': True, 'FALSE': False, 'OFF': False, '0': False}
+WORDS = ('CSV', 'TEXT', *HEADERS)
 MOST_ROWS, MOST_TOKENS = 999, 9_900
 MOST_LINE = 1024 * 1024
+OPEN, COMMA, CLOSE = lexed('('), lexed(','), lexed('),')  # the tokens around values
+OF_ROWS = ('22', '23', '42', '54')  # classes of refusals that a row, or the number of rows, has
 
 
 class Line(NamedTuple):
     """A line's number, counted from 1, and its cells."""
     number: int
     cells: 'list[str]'
+
+
+Row = Tuple[Line, List[Token]]
 
 
 class Format(NamedTuple):
@@ -40,70 +44,72 @@ class Copy(NamedTuple):
     form: Format
 
 
-def copy_of(text: str, catalog: Catalog) -> Optional[Copy]:
-    """The COPY that a text is; None if it is none."""
-    found = COPY.match(text)
-    if found is None:
-        return None
-    table = catalog.tables.get(found['table'].upper())
+def copy_of(tokens: 'list[Token]', catalog: Catalog) -> Copy:
+    """The COPY that tokens are, of which none is a blank."""
+    names, end = lexis.qualified(tokens, 1) if tokens[1:] else ([''], 1)
+    given: 'list[str]' = []
+    begin = taken(tokens, end, '(')
+    while 0 < begin < len(tokens):
+        given.append(lexis.name_of(tokens[begin]))
+        end, begin = begin + 1, taken(tokens, begin + 1, ',')
+    end = taken(tokens, end, ')') if given else end
+    options = end and taken(tokens, end, 'FROM', 'STDIN')
+    if not options:
+        raise Problem('0A000', 'no such COPY',
+                      'COPY reads from a client alone: COPY table FROM STDIN.')
+    table = catalog.tables.get(names[-1]) if names[:-1] in ([], ['PUBLIC']) else None
     if table is None:
-        raise Problem('42P01', f'there is no table {found["table"].upper()}')
+        raise Problem('42P01', f'there is no table {".".join(names)}')
     known: 'list[str]' = [column.name for column in table.given]
-    named = (name.strip().strip('"').upper() for name in (found['columns'] or '').split(','))
-    columns: 'list[str]' = [name for name in named if name] or known
+    columns, has = given or known, f'It has {", ".join(known)}.'
     for name in columns:
         if name not in known:
-            raise Problem('42703', f'{table.name} has no column {name} that is given a value',
-                          f'It has {", ".join(known)}.')
+            raise Problem('42703', f'{table.name} has no column {name} that is given a value', has)
     if sorted(columns) != sorted(known):
-        raise Problem('42601', f'each column of {table.name} has to be given a value',
-                      f'It has {", ".join(known)}.')
-    return Copy(table, columns, format_of(found['options']))
+        raise Problem(SYNTAX, f'each column of {table.name} has to be given a value', has)
+    return Copy(table, columns, format_of(tokens[taken(tokens, options, 'WITH') or options:]))
 
 
-def format_of(text: str) -> Format:
-    """The format that options say, in the present syntax of PostgreSQL or in that before 9.0."""
+def options_of(tokens: 'list[Token]') -> 'Iterator[tuple[str, Optional[Token]]]':
+    """The options of COPY with their values, in the syntax since PostgreSQL 9.0 or before it."""
+    at = 0
+    while at < len(tokens):
+        name = tokens[at].word
+        at += 1
+        at = taken(tokens, at, 'AS') or at
+        has_value = at < len(tokens) and (tokens[at].kind in ('text', 'escaped', 'number') or
+                                          tokens[at].word in WORDS and name in ('FORMAT', 'HEADER'))
+        yield name, tokens[at] if has_value else None
+        at += has_value
+        at = taken(tokens, at, ',') or at
+
+
+def format_of(tokens: 'list[Token]') -> Format:
+    """The format that options say."""
     is_csv = has_header = False
     given: 'dict[str, str]' = {}
-    text, at = text.strip().strip('()'), 0
-    while text[at:].strip():
-        found = OPTION.match(text, at)
-        if found is None:
-            raise Problem(SYNTAX, f'an option of COPY is not known: {text[at:].strip()}')
-        name, value, at = found['name'].upper(), found['value'] or '', found.end()
-        if name in ('FORMAT', 'CSV', 'TEXT'):
-            is_csv = (value or name).upper() == 'CSV'
-        elif name == 'HEADER':
-            has_header = value.lower() not in ('false', 'off')
-        elif name in ('DELIMITER', 'NULL'):
-            given[name] = unquoted(value)
-        elif name != 'ENCODING':
-            raise Problem('0A000', f'COPY has no option {name} here')
+    if tokens and tokens[0].word == '(' and tokens[-1].word == ')':
+        tokens = tokens[1:-1]
+    for name, token in options_of(tokens):
+        value = lexis.text_of(token) if token else ''
+        word = value.upper()
+        if name in ('CSV', 'TEXT') and not token or name == 'FORMAT' and word in ('CSV', 'TEXT'):
+            is_csv = (word or name) == 'CSV'
+        elif name == 'HEADER' and word in ('', *HEADERS):
+            has_header = HEADERS.get(word, True)
+        elif name in ('DELIMITER', 'NULL') and token:
+            given[name] = value
+        elif name != 'ENCODING' or word not in ('UTF8', 'UTF-8'):
+            raise Problem('0A000', f'COPY has no option {name} {value}'.strip())
     delimiter = given.get('DELIMITER', ',' if is_csv else '\t')
-    if len(delimiter) != 1:
+    if len(delimiter) != 1 or delimiter in '\r\n\\"':
         raise Problem('22023', 'the delimiter of COPY is one character')
     return Format(is_csv, has_header, delimiter, given.get('NULL', '' if is_csv else '\\N'))
 
 
-def unescaped(text: str) -> str:
-    """A text with the characters that its escapes denote."""
-    def letter(found: 're.Match[str]') -> str:
-        return ESCAPES.get(found[1], found[1])
-
-    return re.sub(r'\\(.)', letter, text)
-
-
-def unquoted(text: str) -> str:
-    """The text of a literal."""
-    is_escaped = text[:1] in 'eE'
-    inner = text[text.find("'") + 1:-1].replace("''", "'")
-    return unescaped(inner) if is_escaped else inner
-
-
 def lines_of(chunks: 'Iterator[bytes]', form: Format) -> 'Iterator[Line]':
     """The lines of the bytes of a client."""
-    texts = physical_lines(chunks)
-    lines = csv_lines(texts, form) if form.is_csv else text_lines(texts, form)
+    lines = (csv_lines if form.is_csv else text_lines)(physical_lines(chunks), form)
     if form.has_header:
         next(lines, None)
     return lines
@@ -111,16 +117,19 @@ def lines_of(chunks: 'Iterator[bytes]', form: Format) -> 'Iterator[Line]':
 
 def physical_lines(chunks: 'Iterator[bytes]') -> 'Iterator[str]':
     """Bytes cut after line feeds."""
-    rest, number = b'', 1
+    parts: 'list[bytes]' = []
+    size, number = 0, 1
     for chunk in chunks:
-        *whole, rest = (rest + chunk).split(b'\n')
+        *whole, rest = chunk.split(b'\n')
         for line in whole:
-            yield decoded(line, number) + '\n'
-            number += 1
-        if len(rest) > MOST_LINE:
+            yield decoded(b''.join([*parts, line]), number) + '\n'
+            parts, size, number = [], 0, number + 1
+        parts += [rest] * (rest != b'')
+        size += len(rest)
+        if size > MOST_LINE:
             raise Problem('54000', f'line {number} has more than {MOST_LINE:,} bytes')
-    if rest:
-        yield decoded(rest, number)
+    if parts:
+        yield decoded(b''.join(parts), number)
 
 
 def decoded(line: bytes, number: int) -> str:
@@ -134,18 +143,15 @@ def csv_lines(texts: 'Iterator[str]', form: Format) -> 'Iterator[Line]':
     """Lines of comma-separated values (RFC 4180)."""
     reader = csv.reader(texts, delimiter=form.delimiter, strict=True)
     number = 1
-    while True:
-        try:
-            cells = next(reader)
-        except StopIteration:
-            return
-        except csv.Error as error:
-            raise Problem('22P04', f'line {number}: {error}') from None
-        if cells == ['\\.']:
-            return
-        if cells:
-            yield Line(number, cells)
-        number = reader.line_num + 1
+    try:
+        for cells in reader:
+            if cells == ['\\.']:
+                return
+            if cells:
+                yield Line(number, cells)
+            number = reader.line_num + 1
+    except csv.Error as error:
+        raise Problem('22P04', f'line {number}: {error}') from None
 
 
 def text_lines(texts: 'Iterator[str]', form: Format) -> 'Iterator[Line]':
@@ -154,69 +160,56 @@ def text_lines(texts: 'Iterator[str]', form: Format) -> 'Iterator[Line]':
         text = text.rstrip('\r\n')
         if text == '\\.':
             return
-        yield Line(number, [cell if cell == form.null else unescaped(cell)
+        yield Line(number, [cell if cell == form.null else lexis.unescaped(cell, ESCAPE, ESCAPES)
                             for cell in split(text, form.delimiter)])
 
 
 def split(text: str, delimiter: str) -> 'list[str]':
     """A text cut at delimiters that no backslash is before."""
-    cells, begin, at = [], 0, 0
-    while at < len(text):
-        if text[at] == '\\':
-            at += 1
-        elif text[at] == delimiter:
-            cells.append(text[begin:at])
-            begin = at + 1
-        at += 1
+    cells, begin = [], 0
+    for found in re.finditer(r'\\.|' + re.escape(delimiter), text, re.DOTALL):
+        if found[0] == delimiter:
+            cells.append(text[begin:found.start()])
+            begin = found.end()
     return [*cells, text[begin:]]
 
 
 def tokens_of(line: Line, copy: Copy) -> 'list[Token]':
-    """The row of a line, as INSERT has it."""
+    """The row of a line, as INSERT has it, with a comma."""
     if len(line.cells) != len(copy.columns):
         raise Problem('22P04', f'line {line.number} has {len(line.cells)} cells, and'
                       f' {len(copy.columns)} are asked for')
-    tokens = [Token('symbol', '(', 0, '(')]
+    tokens = list(OPEN)
     for name, cell in zip(copy.columns, line.cells):
         kind = copy.table.by_name[name].kind
         if cell == copy.form.null and (cell or kind != 'VARCHAR'):
             raise Problem('23502', f'line {line.number}: {name} is NULL', 'No column holds NULL.',
                           f"An open end is {values.OPEN_END}.")
-        if len(tokens) > 1:
-            tokens.append(Token('symbol', ',', 0, ','))
         try:
-            tokens += values.tokens_of(values.Value(cell, None), kind, 0)
+            tokens += values.tokens_of(values.Value(cell, None), kind, 0) + COMMA
         except Problem as problem:
             raise Problem(problem.state, f'line {line.number}: {problem.message}') from None
-    return [*tokens, Token('symbol', ')', 0, ')')]
+    return [*tokens[:-1], *CLOSE]
 
 
-def statement_of(rows: 'Sequence[tuple[Line, list[Token]]]', copy: Copy) -> 'list[Token]':
+def statement_of(rows: 'Sequence[Row]', copy: Copy) -> 'list[Token]':
     """The INSERT of rows."""
-    tokens = [Token('word', word, 0, word) for word in ('INSERT', 'INTO', copy.table.name)]
-    tokens.append(Token('symbol', '(', 0, '('))
-    for place, name in enumerate(copy.columns):
-        tokens += [Token('symbol', ',', 0, ',')] * (place > 0) + [Token('word', name, 0, name)]
-    tokens += [Token('symbol', ')', 0, ')'), Token('word', 'VALUES', 0, 'VALUES')]
-    for place, (_, row) in enumerate(rows):
-        tokens += [Token('symbol', ',', 0, ',')] * (place > 0) + row
-    return tokens
+    tokens = lexed(f'INSERT INTO {copy.table.name} ({", ".join(copy.columns)}) VALUES')
+    return [*tokens, *(token for _, row in rows for token in row)][:-1]
 
 
-def batches(lines: 'Iterator[Line]',
-            copy: Copy) -> 'Iterator[list[tuple[Line, list[Token]]]]':
-    """The rows of lines, as many together as one INSERT takes. A bad line follows all rows
-    before it."""
-    rows: 'list[tuple[Line, list[Token]]]' = []
+def batches(lines: 'Iterator[Line]', copy: Copy) -> 'Iterator[list[Row]]':
+    """The rows of lines, as many together as an INSERT takes. A bad line follows all before it."""
+    rows: 'list[Row]' = []
     count, most = 0, MOST_TOKENS - 2 * len(copy.columns)
     try:
         for line in lines:
             row = tokens_of(line, copy)
-            if len(rows) == MOST_ROWS or count + len(row) + 1 > most:
+            if len(rows) == MOST_ROWS or count + len(row) > most:
                 yield rows
                 rows, count = [], 0
             rows.append((line, row))
-            count += len(row) + 1
+            count += len(row)
     except Problem:
         if rows:
             yield rows
@@ -225,27 +218,20 @@ def batches(lines: 'Iterator[Line]',
         yield rows
 
 
-def insert(rows: 'list[tuple[Line, list[Token]]]',
-           run: 'Callable[[list[tuple[Line, list[Token]]]], Problem | None]') -> int:
-    """Inserts rows, all at once, or if one is refused those before it. Gives their number."""
-    problem = run(rows)
-    if problem is None:
-        return len(rows)
-    if len(rows) == 1:
-        raise Refused(rows[0][0].number, problem)
-    middle, done = len(rows) // 2, 0
-    for half in (rows[:middle], rows[middle:]):
-        try:
-            done += insert(half, run)
-        except Refused as refused:
-            refused.done += done
-            raise
-    return done
-
-
-class Refused(Exception):
-    """The line of a number is refused, and so many rows before it in its INSERT are stored."""
-
-    def __init__(self, number: int, problem: Problem) -> None:
-        super().__init__(problem.message)
-        self.number, self.problem, self.done = number, problem, 0
+def insert(rows: 'list[Row]', run: 'Callable[[list[Row]], None]') -> 'tuple[int, Problem | None]':
+    """Inserts rows, all at once, or if one is refused those before it. Gives their number, and the
+    refusal with the number of its line."""
+    try:
+        run(rows)
+        return len(rows), None
+    except Problem as problem:
+        if len(rows) == 1 or problem.state[:2] not in OF_ROWS:
+            problem.message = f'line {rows[0][0].number}: {problem.message}'
+            problem.position = None
+            return 0, problem
+    middle = len(rows) // 2
+    done, refused = insert(rows[:middle], run)
+    if refused is None:
+        more, refused = insert(rows[middle:], run)
+        done += more
+    return done, refused

@@ -10,7 +10,7 @@ from .problems import Problem
 # The end of an operand of - and +, and what may be one: names, calls, and texts of dates.
 ENDS = ('AS', 'FROM', 'WHERE', 'GROUP', 'ORDER', 'HAVING', 'LIMIT', 'OFFSET', 'UNION', 'EXCEPT',
         'INTERSECT', 'AND', 'OR', 'NOT', 'IN', 'IS', 'BETWEEN', 'LIKE', 'MATCH', 'WHEN', 'THEN',
-        'ELSE', 'END', 'ASC', 'DESC', 'ON', ',', ';', '=', '<', '>', '!', '|', '%', '+', '-')
+        'ELSE', 'END', 'ASC', 'DESC', 'ON', ')', ',', ';', '=', '<', '>', '!', '|', '%', '+', '-')
 NAME = r'(?:\w+|\[[^\]]{0,130}\])'
 NAMES = re.compile(rf'(?:{NAME}\s*\.\s*)*({NAME})')
 CALL = re.compile(r'(?:MIN|MAX|COALESCE|GREATEST|LEAST|LAG|LEAD|FIRST_VALUE|LAST_VALUE)?\s*'

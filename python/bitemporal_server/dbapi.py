@@ -4,30 +4,29 @@
     cursor = connection.cursor()
     cursor.execute('SELECT * FROM PAY WHERE ENO = ?', (101,))
 
-Each statement is a transaction of its own and is in the store when `execute` returns: `commit` and
-`rollback` have nothing to do. A change is recorded at the time of the machine; with
-`script_clock=True` AT sets the clock. One program at a time has a store open.
+Each statement is a transaction of its own and is in the store when `execute` returns: `commit` has
+nothing to do, and `rollback` after a change raises NotSupportedError. A change is recorded at the
+time of the machine; with `script_clock=True` AT sets the clock. A store whose clock is ahead of the
+machine's time is refused, unless `clock_ahead=True`. One program at a time has a store open.
 """
 import datetime
-import re
+import itertools
 import socket
 import threading
 import time
-from typing import Any, Iterator, Mapping, NamedTuple, Optional, Sequence, Union
+from typing import (Any, ContextManager, FrozenSet, Iterator, Mapping, NamedTuple, Optional,
+                    Sequence, Union)
 
 from bitemporal_tools import program
+from bitemporal_tools.engine_session import NAME, Ended
 from bitemporal_tools.sql.lexis import pieces
-from bitemporal_tools.sql.tree import At, Create, Delete, Insert, Update
 
-from . import dialect, engine, problems, values
+from . import dialect, engine, lexis, values
 from .problems import Problem
+from .rights import Rights
 from .wire import Column, Kind
 
 apilevel, threadsafety, paramstyle = '2.0', 1, 'qmark'  # pylint: disable=invalid-name
-
-CHANGES = (Insert, Update, Delete)
-# A mark of a parameter, and what may have a question mark that is none.
-MARK = re.compile(r"'[^']*'|\"[^\"]*\"|--[^\n]*|/\*.*?\*/|(\?)", re.S)
 
 
 class Warning(Exception):  # pylint: disable=redefined-builtin
@@ -76,43 +75,27 @@ ERRORS = {'22': DataError, '23': IntegrityError, '42': ProgrammingError, '54': O
           '55': OperationalError, '57': OperationalError, '0A': NotSupportedError}
 
 
-class TypeObject:
+class TypeObject(FrozenSet[int]):
     """A kind of columns: equal to the type code of each column of it."""
 
-    def __init__(self, *kinds: Kind) -> None:
-        self.oids = {kind.oid for kind in kinds}
-
     def __eq__(self, other: object) -> bool:
-        return other in self.oids
+        return other in self
 
-    def __hash__(self) -> int:
-        return hash(frozenset(self.oids))
-
-
-STRING, NUMBER = TypeObject(values.VARCHAR, values.TEXT), TypeObject(values.INTEGER)
-DATETIME, BINARY, ROWID = TypeObject(values.DATE, values.TIMESTAMP), TypeObject(), TypeObject()
-
-Date, Time, Timestamp = datetime.date, datetime.time, datetime.datetime
+    __hash__ = frozenset.__hash__
 
 
-def DateFromTicks(ticks: float) -> datetime.date:  # pylint: disable=invalid-name
-    """The local day of seconds from 1970-01-01 on."""
-    return Date(*time.localtime(ticks)[:3])
+STRING, NUMBER = TypeObject([values.VARCHAR.oid, values.TEXT.oid]), TypeObject([values.INTEGER.oid])
+DATETIME = TypeObject([values.DATE.oid, values.TIMESTAMP.oid])
+BINARY, ROWID = TypeObject(), TypeObject()
+
+Date, Time, Timestamp, Binary = datetime.date, datetime.time, datetime.datetime, bytes
+# The local day and moment of seconds from 1970-01-01 on.
+DateFromTicks, TimestampFromTicks = Date.fromtimestamp, Timestamp.fromtimestamp
 
 
 def TimeFromTicks(ticks: float) -> datetime.time:  # pylint: disable=invalid-name
     """The local time of seconds from 1970-01-01 on."""
     return Time(*time.localtime(ticks)[3:6])
-
-
-def TimestampFromTicks(ticks: float) -> datetime.datetime:  # pylint: disable=invalid-name
-    """The local moment of seconds from 1970-01-01 on."""
-    return Timestamp(*time.localtime(ticks)[:6])
-
-
-def Binary(data: bytes) -> bytes:  # pylint: disable=invalid-name
-    """Bytes, which no column holds."""
-    return bytes(data)
 
 
 class Described(NamedTuple):
@@ -126,6 +109,11 @@ class Described(NamedTuple):
     null_ok: bool
 
 
+# The type of a parameter, by the first of these of which it is.
+KINDS: 'tuple[tuple[Any, str], ...]' = (
+    (int, 'INTEGER'), (Timestamp, 'TIMESTAMP'), (Date, 'DATE'), (str, 'VARCHAR'))
+
+
 def error_of(problem: Problem) -> DatabaseError:
     """The error of a problem."""
     found: DatabaseError = ERRORS.get(problem.state[:2], OperationalError)(problem.message)
@@ -133,26 +121,15 @@ def error_of(problem: Problem) -> DatabaseError:
     return found
 
 
-def with_numbers(text: str) -> str:
-    """A statement with $1, $2 and so on in the place of its marks."""
-    numbers = iter(range(1, 100_000))
-    return MARK.sub(lambda found: f'${next(numbers)}' if found[1] else found[0], text)
-
-
 def value_of(given: Any, number: int) -> values.Value:
     """A parameter."""
     if isinstance(given, bool) or given is None:
         raise DataError(f'parameter {number} is {given}: no column holds it')
-    if isinstance(given, int):
-        return values.Value(str(given), 'INTEGER')
-    if isinstance(given, datetime.datetime):
-        if given.tzinfo is not None:
-            raise DataError(f'parameter {number} has a time zone: give it in the time of the clock')
-        return values.Value(given.isoformat(' '), 'TIMESTAMP')
-    if isinstance(given, datetime.date):
-        return values.Value(given.isoformat(), 'DATE')
-    if isinstance(given, str):
-        return values.Value(given, 'VARCHAR')
+    if isinstance(given, datetime.datetime) and given.tzinfo is not None:
+        raise DataError(f'parameter {number} has a time zone: give it in the time of the clock')
+    for kind, name in KINDS:
+        if isinstance(given, kind):
+            return values.Value(given if kind is str else str(given), name)
     raise DataError(f'parameter {number} is a {type(given).__name__}: there are int, str, date and'
                     ' datetime')
 
@@ -166,23 +143,24 @@ def cell(text: str, kind: Kind) -> Any:
     return datetime.datetime.fromisoformat(text) if kind is values.TIMESTAMP else text
 
 
-class Connection:
+class Connection(ContextManager['Connection']):
     """A store that is open, until `close`."""
     Warning, Error, InterfaceError, DatabaseError = Warning, Error, InterfaceError, DatabaseError
     DataError, OperationalError, IntegrityError = DataError, OperationalError, IntegrityError
     InternalError, ProgrammingError = InternalError, ProgrammingError
     NotSupportedError = NotSupportedError
 
-    def __init__(self, store: str, script_clock: bool) -> None:
-        self.has_clock, self.lock = not script_clock, threading.Lock()
-        self.is_open = False
+    def __init__(self, store: str, script_clock: bool, clock_ahead: bool) -> None:
+        self.rights, self.lock = Rights(sets_clock=script_clock), threading.Lock()
+        self.is_open = self.has_changed = False
         # Nobody cancels a query: its client is never seen to go.
         self.connection, self.other = socket.socketpair()
         self.is_cancelled = False
         try:
-            self.engine = engine.Engine(program.path(engine.NAME), store, 10 ** 9, 10 ** 12,
-                                        *['--now'][:self.has_clock])
-        except (engine.Ended, OSError, ValueError):
+            self.engine = engine.Engine(program.path(NAME), store, float('inf'), 10 ** 12,
+                                        *['--now'][:not script_clock],
+                                        *['--clock-ahead'][:clock_ahead])
+        except (Ended, OSError, ValueError):
             self.connection.close()
             self.other.close()
             raise OperationalError(f'{store} is not opened') from None
@@ -199,12 +177,16 @@ class Connection:
             raise InterfaceError('the connection is closed')
 
     def commit(self) -> None:
-        """Does nothing: each statement is committed as it is done."""
+        """Does nothing more: each statement is committed as it is done."""
         self.check()
+        self.has_changed = False
 
     def rollback(self) -> None:
-        """Does nothing: no transaction is open."""
+        """Refuses to take back a change: each is committed as it is done."""
         self.check()
+        if self.has_changed:
+            raise NotSupportedError('changes since the last commit() stay: each statement is a'
+                                    ' transaction of its own')
 
     def close(self) -> None:
         """Closes the store."""
@@ -214,9 +196,6 @@ class Connection:
             self.other.close()
             if self.engine.close() not in (0, 1):
                 raise OperationalError('the store was not closed')
-
-    def __enter__(self) -> 'Connection':
-        return self
 
     def __exit__(self, *_: object) -> None:
         self.close()
@@ -232,28 +211,16 @@ class Connection:
                     raise Problem('42601', f'{len(found)} statements in place of one')
                 statement = found[0].bound([value_of(it, number)
                                             for number, it in enumerate(given, 1)])
-                outcome = self.outcome(dialect.part_of(statement), statement.tree)
-                if outcome.kind == 'refused':
-                    raise problems.refusal(text, statement, self.engine.catalog, outcome.code,
-                                           outcome.day)
+                outcome = self.engine.run(statement, self.rights, self, text)
+                self.has_changed = self.has_changed or outcome.kind == 'done'
                 return outcome, dialect.columns_of(statement.tree, self.engine.catalog)
             except Problem as problem:
                 raise error_of(problem) from None
-            except engine.Ended:
-                raise OperationalError('the program has ended: whether the statement is done is'
-                                       ' not known') from None
-
-    def outcome(self, data: bytes, tree: object) -> engine.Outcome:
-        """The outcome of a statement, given as bytes."""
-        if not isinstance(tree, (*CHANGES, At, Create)):
-            return self.engine.query(data, self)
-        if self.has_clock and isinstance(tree, At):
-            raise Problem('0A000', 'no AT: changes are recorded at the time of the machine',
-                          hint='connect(.., script_clock=True) has the clock set by AT.')
-        return self.engine.change(data, tree)
+            except UnicodeEncodeError:
+                raise DataError('a text has half of a surrogate pair') from None
 
 
-class Cursor:
+class Cursor(ContextManager['Cursor']):
     """Runs statements, and has the answer of the last one."""
 
     def __init__(self, connection: Connection) -> None:
@@ -274,17 +241,18 @@ class Cursor:
         self.check()
         if isinstance(parameters, (Mapping, str)):
             raise ProgrammingError('parameters are a sequence, one for each ?')
-        text = with_numbers(operation)
+        numbers = itertools.count(1)  # of marks, which are in no other token
+        text = ''.join(f'${next(numbers)}' if it.text == '?' else it.text
+                       for it in lexis.lexed(operation))
         self.description, self.rows, self.rowcount = None, None, -1
         outcome, columns = self.connection.run(text, list(parameters))
         self.rowcount = outcome.number if outcome.kind == 'answer' or outcome.what in (
             'insert', 'update', 'delete') else -1
-        if outcome.kind == 'answer':
-            columns = columns or []
+        if columns is not None:
             self.description = [Described(it.name, it.kind.oid, None, it.kind.size, None, None,
                                           it.name in ('held', 'absent')) for it in columns]
             kinds = [it.kind for it in columns]
-            self.rows = (tuple(map(cell, row, kinds)) for row in engine.rows_of(outcome.rows))
+            self.rows = (tuple(map(cell, row, kinds)) for row in engine.rows_of(outcome))
         return self
 
     def executemany(self, operation: str, seq_of_parameters: Sequence[Sequence[Any]]) -> 'Cursor':
@@ -305,6 +273,8 @@ class Cursor:
             raise ProgrammingError('there is no answer to fetch from')
         return self.rows
 
+    __iter__ = answer
+
     def fetchone(self) -> Optional[Sequence[Any]]:
         """The next row, or None."""
         return next(self.answer(), None)
@@ -318,9 +288,6 @@ class Cursor:
         """All rows that are left."""
         return list(self.answer())
 
-    def __iter__(self) -> 'Iterator[Sequence[Any]]':
-        return self.answer()
-
     def setinputsizes(self, sizes: Sequence[Any]) -> None:
         """Does nothing: values have their types."""
 
@@ -331,13 +298,10 @@ class Cursor:
         """Gives up the answer."""
         self.is_open, self.rows = False, None
 
-    def __enter__(self) -> 'Cursor':
-        return self
-
     def __exit__(self, *_: object) -> None:
         self.close()
 
 
-def connect(store: str, script_clock: bool = False) -> Connection:
+def connect(store: str, script_clock: bool = False, clock_ahead: bool = False) -> Connection:
     """Opens a store, which is made if there is none."""
-    return Connection(str(store), script_clock)
+    return Connection(str(store), script_clock, clock_ahead)

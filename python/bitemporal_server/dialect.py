@@ -1,10 +1,11 @@
 """The writing of drivers, as tokens of docs/PROFILE.md: parameters ($1), casts
-('2024-01-01'::date), names in double quotes, E'..', /* */ and !=. All else is left as it is, for
-the engine to judge."""
+('2024-01-01'::date), names in double quotes, E'..', /* */ and !=. All else is left as it is."""
+import contextlib
 import re
-from typing import Any, Iterator, Optional, Sequence
+from typing import Any, Iterable, Iterator, Optional, Sequence
 
 from bitemporal_tools.explanation import bad_tokens
+from bitemporal_tools.sql import lexis as profile
 from bitemporal_tools.sql.catalog import Catalog
 from bitemporal_tools.sql.lexis import RESERVED, Token
 from bitemporal_tools.sql.parser import Parser
@@ -16,26 +17,17 @@ from bitemporal_tools.sql.tree import (And, ColumnReference, Comparison, Delete,
                                        Not, Or, Select, Sequenced, Stored, Update, known_as,
                                        selects)
 
-from . import values
+from . import lexis, values
 from .problems import SYNTAX, Problem
 from .wire import Column
 
-LEXEME = re.compile(
-    r"(?P<white>[\t-\r ]+|--[^\n]*\n?|/\*(?s:.*?)\*/)"
-    r"|(?P<escaped>[eE]'(?:[^'\\]|\\(?s:.)|'')*')"
-    r"|(?P<word>[A-Za-z_][A-Za-z0-9_]*)"
-    r"|(?P<number>[0-9]+)"
-    r"|(?P<text>'[^']*(?:''[^']*)*'(?!'))"
-    r'|"(?P<quoted>\$?[A-Za-z_][A-Za-z0-9_]*)"'
-    r"|\$(?P<parameter>[0-9]+)"
-    r"|::\s*(?:pg_catalog\.)?(?P<cast>\w+)(?:\(\d+\))?(?:\s+without\s+time\s+zone|\s+varying)?"
-    r"|(?P<symbol><>|!=|<=|>=|[(),;.*=<>+-])", re.IGNORECASE)
+NAME = re.compile('[A-Za-z_][A-Za-z0-9_]*')
+SYMBOLS = frozenset(('<>', '<=', '>=', *'(),;.*=<>+-'))
 CASTS = {'DATE': 'DATE', 'TIMESTAMP': 'TIMESTAMP', **dict.fromkeys(
     ('INTEGER', 'INT', 'BIGINT', 'SMALLINT', 'INT2', 'INT4', 'INT8'), 'INTEGER'), **dict.fromkeys(
     ('TEXT', 'VARCHAR', 'CHARACTER', 'NAME'), 'VARCHAR')}
 BEFORE_TABLES = ('FROM', 'INTO', 'UPDATE', 'JOIN', 'TABLE', 'REFERENCES')
-ESCAPES = {'n': '\n', 't': '\t', 'r': '\r', 'b': '\b', 'f': '\f'}
-MOST_BYTES = 4_194_304  # of a script
+SHOWN = 1000  # characters behind a bad token that its explanation looks at
 
 
 class Hole(Token):
@@ -50,23 +42,27 @@ class Hole(Token):
         return hole
 
 
-def unescaped(text: str) -> str:
-    """The text that E'..' is."""
-    return re.sub(r"\\((?s:.))|''", lambda found: "'" if found[1] is None else
-                  ESCAPES.get(found[1], found[1]), text[2:-1])
-
-
 def lexed(text: str) -> 'list[Token]':
     """The tokens and holes of a text."""
+    return tokens_of(text, list(lexis.lexed(text)))
+
+
+def tokens_of(text: str, given: 'list[Token]') -> 'list[Token]':
+    """The tokens and holes that tokens of PostgreSQL are, of which a text has these."""
     tokens: 'list[Token]' = []
-    offset = 0
-    while offset < len(text):
-        found = LEXEME.match(text, offset)
-        if found is None or found.lastgroup == 'cast' and not casts(tokens, found['cast'].upper()):
-            raise bad_token(text, offset)
-        add_token(tokens, text, found)
-        offset = found.end()
-    return without_schema(tokens) if 'public' in text.lower() else tokens
+    at = 0
+    while at < len(given):
+        token, at = given[at], at + 1
+        if token.word == '::':
+            name, at = lexis.type_at(given, at)
+            if not casts(tokens, name) or CASTS[name] == 'VARCHAR' and given[at - 1].word == ')':
+                raise bad_token(text, token.offset)
+        elif token.kind == 'number' and not token.text.isdigit():  # 1.5 are three tokens
+            tokens += [it._replace(offset=token.offset + it.offset)
+                       for it in profile.lexed(token.text)]
+        elif token.kind != 'blank':
+            add_token(tokens, token, text)
+    return without_schema(tokens) if any(it.word == 'PUBLIC' for it in tokens) else tokens
 
 
 def without_schema(tokens: 'list[Token]') -> 'list[Token]':
@@ -83,28 +79,25 @@ def without_schema(tokens: 'list[Token]') -> 'list[Token]':
     return found
 
 
-def add_token(tokens: 'list[Token]', text: str, found: 're.Match[str]') -> None:
-    """Adds the token of a lexeme, if it is one."""
-    kind, offset = found.lastgroup or '', found.start()
-    if kind == 'quoted' and '$' in found['quoted'] and not (tokens and tokens[0].word == 'SET'):
-        raise bad_token(text, offset)
-    if kind == 'word' or kind == 'quoted' and found['quoted'].upper() not in RESERVED:
-        tokens.append(Token('word', found[0], offset, found[kind].upper()))
-    elif kind == 'quoted':
-        raise bad_token(text, offset)
+def add_token(tokens: 'list[Token]', token: Token, text: str) -> None:
+    """Adds the token or the hole that a token of PostgreSQL is."""
+    kind, spelled, offset = token.kind, token.text, token.offset
+    if kind == 'quoted' and NAME.fullmatch(spelled[1:-1]) and spelled[1:-1].upper() not in RESERVED:
+        tokens.append(Token('word', spelled, offset, lexis.name_of(token)))
     elif kind == 'parameter':
         before = tokens[-1].word if tokens and tokens[-1].kind == 'word' else None
         if before in ('DATE', 'TIMESTAMP'):  # DATE $1
             tokens.pop()
-        tokens.append(Hole(offset, found[0], int(found['parameter']),
+        tokens.append(Hole(offset, spelled, int(spelled[1:]),
                            values.Value(None, before if before in values.KINDS else None)))
     elif kind == 'escaped':
-        tokens.append(Hole(offset, found[0], None, values.Value(unescaped(found[0]), None)))
-    elif kind == 'symbol':
-        symbol = '<>' if found[0] == '!=' else found[0]
-        tokens.append(Token(kind, symbol, offset, symbol))
-    elif kind not in ('white', 'cast'):
-        tokens.append(Token(kind, found[0], offset, ''))
+        tokens.append(Hole(offset, spelled, None, values.Value(lexis.text_of(token), None)))
+    elif token.word == '!=':
+        tokens.append(Token(kind, '<>', offset, '<>'))
+    elif kind in ('word', 'number', 'text') or token.word in SYMBOLS:
+        tokens.append(token)
+    else:
+        raise bad_token(text, offset)
 
 
 def casts(tokens: 'list[Token]', name: str) -> bool:
@@ -117,7 +110,7 @@ def casts(tokens: 'list[Token]', name: str) -> bool:
     if isinstance(last, Hole):
         number, text = last.number, last.value.text
     elif last.kind == 'text':
-        text = last.text[1:-1].replace("''", "'")
+        text = lexis.text_of(last)
     elif last.kind != 'number':
         return False
     tokens[-1] = Hole(last.offset, last.text, number, values.Value(text, CASTS[name]))
@@ -126,8 +119,10 @@ def casts(tokens: 'list[Token]', name: str) -> bool:
 
 def bad_token(text: str, offset: int) -> Problem:
     """The refusal of a text for the bytes at an offset, which are no token."""
+    offset += text[offset:offset + 2].upper() == "E'"
     refused = Refused(3, len(text[:offset].encode('utf-8')), offset)
-    lines = bad_tokens.of_script('', text.encode('utf-8'), refused).split('\n')[2:]
+    shown = text[:offset + SHOWN].encode('utf-8')
+    lines = bad_tokens.of_script('', shown, refused).split('\n')[2:]
     told = ' '.join(line.strip() for line in lines)
     cause, _, hint = told.partition(' What to do')
     return Problem(SYNTAX, '3 BadToken', cause, hint and 'What to do' + hint, offset)
@@ -167,28 +162,25 @@ class Prepared:
     def __init__(self, text: str, tokens: 'list[Token]', catalog: Catalog) -> None:
         self.text, self.tokens, self.catalog = text, tokens, catalog
         self.holes = [token for token in tokens if isinstance(token, Hole)]
-        self.words = [token.word for token in tokens[:4]]
+        self.word = tokens[0].word
         self.whole = None if self.holes else Statement(1, tokens)
         self.tree = self.whole.tree if self.whole else None
         self.kinds: 'dict[int, str | None]' = {}
         if self.holes:
             parser = HoleParser(tokens)
-            try:
+            with contextlib.suppress(NoStatement):
                 self.tree = parser.statement()
                 self.kinds = {**parser.kinds, **dict(kinds_of(self.tree, catalog))}
-            except NoStatement:
-                pass
         self.columns = columns_of(self.tree, catalog)
 
     def parameters(self, declared: Sequence[int]) -> 'list[int]':
         """The type numbers of the parameters, of which some may be declared."""
-        count = values.count_of(hole.number or 0 for hole in self.holes)
-        found = [declared[at] if at < len(declared) else 0 for at in range(count)]
-        for hole in self.holes:
-            if hole.number and not found[hole.number - 1]:
+        own = [0] * values.count_of(hole.number or 0 for hole in self.holes)
+        for hole in reversed(self.holes):
+            if hole.number:
                 kind = self.kinds.get(hole.offset) or hole.value.declared or 'VARCHAR'
-                found[hole.number - 1] = values.KINDS[kind].oid
-        return found
+                own[hole.number - 1] = values.KINDS[kind].oid
+        return values.oids(declared, own)
 
     def bound(self, given: Sequence[values.Value]) -> Statement:
         """The statement with these values of its parameters."""
@@ -216,15 +208,6 @@ class Prepared:
         return Statement(1, tokens)
 
 
-def part_of(statement: Statement) -> bytes:
-    """The part of a session that has a statement."""
-    part = ' '.join(token.word or token.text for token in statement.tokens)
-    data = part.encode('utf-8') + b';\n'
-    if len(data) > MOST_BYTES:
-        raise Problem('54000', f'the statement has more than {MOST_BYTES:,} bytes')
-    return data
-
-
 def kinds_of(tree: object, catalog: Catalog) -> 'Iterator[tuple[int, str]]':
     """The types that columns give to holes, by offset."""
     if isinstance(tree, Sequenced):
@@ -237,16 +220,13 @@ def kinds_of(tree: object, catalog: Catalog) -> 'Iterator[tuple[int, str]]':
     table = catalog.tables.get(getattr(tree, 'table', ''))
     if table is None:
         return
+    pairs: 'Iterable[tuple[str, Literal]]' = tree.sets if isinstance(tree, Update) else ()
     if isinstance(tree, Insert):
         names = tree.columns or [column.name for column in table.given]
-        for row in tree.rows:
-            for name, literal in zip(names, row.values):
-                if not literal.kind and name in table.by_name:
-                    yield literal.offset, table.by_name[name].kind
-    if isinstance(tree, Update):
-        for name, literal in tree.sets:
-            if not literal.kind and name in table.by_name:
-                yield literal.offset, table.by_name[name].kind
+        pairs = (pair for row in tree.rows for pair in zip(names, row.values))
+    for name, literal in pairs:
+        if not literal.kind and name in table.by_name:
+            yield literal.offset, table.by_name[name].kind
     if isinstance(tree, (Update, Delete, Stored)):
         yield from kinds_of_condition(tree.where, Scope([(table.name, table)]))
 

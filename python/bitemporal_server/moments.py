@@ -2,15 +2,18 @@
 PostgreSQL that tools use of them and of texts."""
 import calendar
 import datetime
+import functools
 import re
 import sqlite3
-from typing import Any, Callable, Optional
+from typing import Any, Callable
 
-from .aggregates import AGGREGATES
+from .aggregates import AGGREGATES, Percentile
+from .engine import machine_time
+from .lexis import literal
 from .system_texts import quote_ident
 
 MOMENT = re.compile(r'(\d{4}-\d\d-\d\d)(?:[ T](\d\d:\d\d)(?:(:\d\d)(?:\.(\d{1,6}))?)?)?'
-                    r' ?(?:Z|[+-]\d\d(?::?\d\d)?)?')
+                    r' ?(?:Z|[+-]\d\d(?::?\d\d)?)?', re.ASCII)
 # After what gives a date or a moment, so that it compares as one.
 AS_MOMENT = ' COLLATE moment'
 INTERVAL = re.compile(r'([+-]?\d+)\s*([a-z]+?)s?\b', re.I)
@@ -52,68 +55,54 @@ def at(text: str) -> datetime.datetime:
     return datetime.datetime.fromisoformat(whole(text))
 
 
-def told(moment: datetime.datetime) -> str:
-    """The text of a moment."""
-    return moment.isoformat(' ')
+def strict(function: Callable[..., Any]) -> Callable[..., Any]:
+    """A function that gives NULL if it is given NULL."""
+    return lambda *given: None if None in given else function(*given)
 
 
-def as_date(text: Any) -> Any:
-    """CAST(.. AS DATE)."""
-    return text and plain(str(text))[:10]
-
-
-def as_timestamp(text: Any) -> Any:
-    """CAST(.. AS TIMESTAMP)."""
-    return text and whole(str(text))
-
-
-def date_trunc(unit: str, text: Optional[str]) -> Optional[str]:
+def date_trunc(unit: str, text: str) -> str:
     """The first moment of the unit that a moment is in."""
-    if text is None:
-        return None
     moment, unit = at(text), unit.lower()
     if unit == 'week':
         moment, unit = moment - datetime.timedelta(moment.weekday()), 'day'
     if unit == 'quarter':
         moment, unit = moment.replace(day=1, month=moment.month - (moment.month - 1) % 3), 'month'
     first = {name: 1 if name in ('month', 'day') else 0 for name in KEPT[KEPT.index(unit) + 1:]}
-    return told(moment.replace(microsecond=0, **first))  # type: ignore[arg-type]
+    return moment.replace(microsecond=0, **first).isoformat(' ')  # type: ignore[arg-type]
+
+
+def epoch(text: str) -> float:
+    """The seconds of an interval, or of a moment since 1970."""
+    spans = SPAN.fullmatch(text)
+    if not text or not spans:
+        return (at(text) - datetime.datetime(1970, 1, 1)).total_seconds()
+    days, sign, *clock = spans.groups('0')
+    hours, minutes, seconds = map(float, clock)
+    return int(days) * 86400 + float(f'{sign}1') * (hours * 3600 + minutes * 60 + seconds)
 
 
 def date_part(unit: str, text: Any) -> Any:
-    """A number of a moment: its year, its day of the week, its seconds since 1970; or the seconds
-    of an interval."""
-    if text is None:
-        return None
-    unit, spans = unit.lower(), SPAN.fullmatch(str(text))
-    if text != '' and spans and unit == 'epoch':
-        days, sign, *clock = spans.groups('0')
-        hours, minutes, seconds = map(float, clock)
-        found = int(days) * 86400 + float(f'{sign}1') * (hours * 3600 + minutes * 60 + seconds)
-        return int(found) if found == int(found) else found
+    """A number of a moment, as its year or its seconds since 1970; or an interval's seconds."""
+    unit = unit.lower()
+    if unit == 'epoch':
+        seconds = epoch(str(text))
+        return int(seconds) if seconds == int(seconds) else seconds
     moment = at(text)
     if unit in KEPT:
         return getattr(moment, unit)
-    if unit == 'epoch':
-        seconds = (moment - datetime.datetime(1970, 1, 1)).total_seconds()
-        return int(seconds) if seconds == int(seconds) else seconds
     return {'quarter': (moment.month + 2) // 3, 'week': moment.isocalendar()[1],
             'isoyear': moment.isocalendar()[0], 'dow': moment.isoweekday() % 7,
             'isodow': moment.isoweekday(), 'doy': moment.timetuple().tm_yday}[unit]
 
 
-def to_char(text: Optional[str], form: str) -> Optional[str]:
+def to_char(text: str, form: str) -> str:
     """A moment by a pattern of PostgreSQL's, of letters that are in PATTERNS."""
-    if text is None:
-        return None
     moment = at(text)
     return PATTERN.sub(lambda found: moment.strftime(PATTERNS[found[0]]), form)
 
 
-def plus_interval(text: Optional[str], sign: str, interval: str) -> Optional[str]:
+def plus_interval(text: str, sign: str, interval: str) -> str:
     """A moment plus or minus an interval, such as '-12 month'."""
-    if text is None:
-        return None
     moment = at(text)
     for count, unit in INTERVAL.findall(interval):
         number = int(sign + '1') * int(count)
@@ -124,12 +113,7 @@ def plus_interval(text: Optional[str], sign: str, interval: str) -> Optional[str
                                         months // 12, months % 12 + 1)[1]))
         else:
             moment += datetime.timedelta(seconds=number * SECONDS[unit.lower()])
-    return told(moment)
-
-
-def is_day(cell: Any) -> bool:
-    """Whether a cell is a date."""
-    return isinstance(cell, str) and len(cell) == 10
+    return moment.isoformat(' ')
 
 
 def span(start: str, end: str) -> str:
@@ -146,33 +130,19 @@ def span(start: str, end: str) -> str:
 def days_before(cell: Any, other: Any) -> Any:
     """The meaning of -: between dates the number of days, between moments the interval, of a date
     and a number the date so many days earlier; of numbers as ever."""
-    if cell is None or other is None:
-        return None
     if isinstance(other, str):
         day, other_day = plain(str(cell)), plain(other)
-        return (at(day) - at(other_day)).days if is_day(day) and is_day(other_day) else \
+        return (at(day) - at(other_day)).days if len(day) == len(other_day) == 10 else \
             span(other_day, day)
     return days_after(cell, -other)
 
 
 def days_after(cell: Any, other: Any) -> Any:
     """The meaning of +: of a date and a number the date so many days later; of numbers as ever."""
-    if cell is None or other is None:
-        return None
     date, number = (cell, other) if isinstance(cell, str) else (other, cell)
     if not isinstance(date, str):
         return date + number
     return (datetime.date.fromisoformat(plain(date)) + datetime.timedelta(number)).isoformat()
-
-
-def now() -> str:
-    """The moment at which it is called, as UTC."""
-    return told(datetime.datetime.now(datetime.timezone.utc).replace(tzinfo=None))
-
-
-def concat(*cells: Any) -> str:
-    """The texts of all cells, NULL left out."""
-    return ''.join(str(cell) for cell in cells if cell is not None)
 
 
 def extreme(choose: Callable[..., Any]) -> Callable[..., Any]:
@@ -180,41 +150,31 @@ def extreme(choose: Callable[..., Any]) -> Callable[..., Any]:
     return lambda *cells: choose([cell for cell in cells if cell is not None], default=None)
 
 
-def quote_literal(text: Any) -> Optional[str]:
-    """A text as a literal."""
-    return text and "'" + str(text).replace("'", "''") + "'"
-
-
-def split_part(text: Optional[str], between: str, number: int) -> Optional[str]:
-    """The part of this number, from 1 on, of a text that is divided."""
-    if text is None:
-        return None
-    parts = text.split(between)
-    return parts[number - 1] if 0 < number <= len(parts) else ''
-
-
 FUNCTIONS: 'dict[str, tuple[int, Callable[..., Any]]]' = {
-    'as_date': (1, as_date), 'as_timestamp': (1, as_timestamp), 'date_trunc': (2, date_trunc),
+    'as_date': (1, lambda text: plain(str(text))[:10]),
+    'as_timestamp': (1, lambda text: whole(str(text))), 'date_trunc': (2, date_trunc),
     'date_part': (2, date_part), 'to_char': (2, to_char), 'plus_interval': (3, plus_interval),
-    'now': (0, now), 'concat': (-1, concat), 'greatest': (-1, extreme(max)),
+    'now': (0, machine_time), 'greatest': (-1, extreme(max)),
+    'concat': (-1, lambda *cells: ''.join(str(it) for it in cells if it is not None)),
     'least': (-1, extreme(min)), 'days_before': (2, days_before), 'days_after': (2, days_after),
-    'quote_literal': (1, quote_literal), 'quote_ident': (1, quote_ident),
-    'split_part': (3, split_part)}
+    'quote_literal': (1, lambda text: literal(str(text))),
+    'quote_ident': (1, quote_ident)}
 
 
-def teach(database: sqlite3.Connection) -> None:
-    """Gives an sqlite the order of dates and moments, `moment`, and the functions. LIKE minds case
-    then, and MATCH, for ILIKE, does not."""
+def teach(database: sqlite3.Connection, other: sqlite3.Connection,
+          add: Callable[[int], None]) -> None:
+    """Gives an sqlite the order of moments and the functions. LIKE minds case then, and MATCH, for
+    ILIKE, does not, as the other one has it. `add` counts bytes that aggregates hold."""
     database.create_collation('moment', order)
     for name, (count, function) in FUNCTIONS.items():
-        database.create_function(name, count, function)
-    for name, (count, aggregate) in AGGREGATES.items():
-        database.create_aggregate(name, count, aggregate)
-    other = sqlite3.connect(':memory:', check_same_thread=False)
+        database.create_function(name, count, function if count < 0 else strict(function))
+    for name, aggregate in AGGREGATES.items():
+        database.create_aggregate(name, 1, aggregate)
+    percentile: Any = functools.partial(Percentile, add)
+    database.create_aggregate('percentile_cont', 2, percentile)
 
-    def ilike(pattern: Any, text: Any) -> Optional[int]:
-        found: Optional[int] = other.execute('SELECT ? LIKE ?', [text, pattern]).fetchone()[0]
-        return found
+    def ilike(pattern: Any, text: Any) -> Any:
+        return other.execute('SELECT ? LIKE ?', [text, pattern]).fetchone()[0]
 
     database.create_function('match', 2, ilike)
     database.execute('PRAGMA case_sensitive_like = ON')

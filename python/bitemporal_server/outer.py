@@ -1,46 +1,35 @@
 """Outer queries: the engine answers each query in parentheses, and sqlite in memory the rest.
 
     SELECT DEPT, COUNT(*) FROM (VALIDTIME SELECT DISTINCT ..) AS a GROUP BY DEPT ORDER BY 2 DESC
-    SELECT * FROM totals((VALIDTIME SELECT DISTINCT ..), '--by DEPT --count') WHERE COUNT > 3
     SELECT "source"."DEPT", COUNT(*) FROM "public"."EMP" AS "source" GROUP BY "source"."DEPT"
 
-So tools get aggregates, ORDER BY, LIMIT and outer joins over answers, which the profile does not
-have. A table that is named as tools name it, in double quotes or after `public.`, has its current
-rows there, as of SELECT * FROM table. What sqlite computes is outside the proofs.
+A table that is named as tools name it, in double quotes or after `public.`, has its current rows
+there, as of SELECT * FROM table. What sqlite computes is outside the proofs.
 """
 import contextlib
 import re
 import sqlite3
-import time
+import sys
 from typing import Any, Callable, Iterator, NamedTuple, Optional, Sequence
 
 from bitemporal_tools.sql.catalog import Catalog
-from bitemporal_tools.sql.lexis import pieces
-from bitemporal_tools.sql.tree import Sequenced, Stored
+from bitemporal_tools.sql.lexis import Token
 
-from . import dialect, totals, values
-from .answer_tables import SCHEMA, bounded, cells_of, fill, kind_of, opened, shown
+from . import dialect, lexis, totals, values
+from .answer_tables import MOST_STEPS, SCHEMA, VALUE, Bounds, cells_of, fill, kind_of, opened, shown
+from .lexis import taken
 from .moments import AS_MOMENT
 from .problems import SYNTAX, Problem
-from .system_tables import OPENS, counts_down, reads_only
 from .translation import translated, without_conditions
 from .wire import Column
 
-NAMED = re.compile(r"'(?:[^']|'')*'|--[^\n]*|/\*.*?\*/"
-                   r'|(?:"public"|\bpublic)\s*\.\s*"?(?P<schema>\w+)"?|"(?P<quoted>\w+)"',
-                   re.I | re.S)
-POSSIBLE = re.compile(r'["(]|public', re.I)  # without one of them a text is no outer query
-LACK = re.compile(r'no such (column|table|function): (?:public\.)?(.*)')
 MARKS = re.compile(re.escape(AS_MOMENT) + r'|[\[\]]')  # of ours, in the name of a column
-VALUE = '22000'
-STATES = {'column': '42703', 'table': '42P01', 'function': '42883', 'interrupted': '57014',
-          'user-defined function raised exception': VALUE}
-LEXEME = re.compile(r"'(?:[^']|'')*'|\"(?:[^\"]|\"\")*\"|--[^\n]*|/\*.*?\*/|[()]", re.S)
-INNER = re.compile(r'\s*(?:VALIDTIME\b|SELECT\s+\*\s+FROM\b)', re.I)
-PARAMETER = re.compile(r"'(?:[^']|'')*'|\[[^\]]*\]|--[^\n]*|/\*.*?\*/|\?([0-9]+)", re.S)
+# Names of sqlite's for the number of a row, which no table here has, and what it takes for itself.
+ROWS, REFUSED = ('ROWID', '_ROWID_', 'OID'), ('[', ']')
 # A cell of each type, by which the types of an outer query's columns are found.
 CELLS = {'INTEGER': 1, 'VARCHAR': 'x', 'DATE': '2000-01-01', 'TIMESTAMP': '2000-01-01 00:00:00'}
-MOST_STEPS, FEW_STEPS = 100_000, 100  # of sqlite, in ten thousands
+FEW_STEPS = 100  # of sqlite, in ten thousands
+MOST_INNER = 64  # queries in parentheses
 
 
 class Inner(NamedTuple):
@@ -52,68 +41,66 @@ class Inner(NamedTuple):
 class Outer:
     """A query over the answers of other queries."""
 
-    def __init__(self, text: str, inner: 'list[Inner]', stops: Callable[[float], bool]) -> None:
-        self.inner, self.stops = inner, stops
-        text, self.totals = totals.calls(text, [it.prepared.columns or [] for it in inner])
-        self.text = translated(text, {
-            column.name.upper() for _, columns in self.tables() for column in columns
+    def __init__(self, tokens: 'list[Token]', inner: 'list[Inner]',
+                 bounds: Callable[[int], Bounds]) -> None:
+        self.inner, self.bounds, self.word = inner, bounds, 'SELECT'
+        tokens, self.totals = totals.calls(tokens, [it.prepared.columns or [] for it in inner])
+        known = {column.name.upper(): column for _, columns in self.tables() for column in columns}
+        for token in tokens:
+            if token.word in REFUSED or lexis.name_of(token) in ROWS and \
+                    lexis.name_of(token) not in known:
+                raise Problem('42703', f'{self.name()}: there is no {token.text}',
+                              position=token.offset)
+        self.parts = translated(tokens, {
+            name for name, column in known.items()
             if column.kind in (values.DATE, values.TIMESTAMP)})
-        self.count = values.count_of(int(found[1]) for found in PARAMETER.finditer(self.text)
-                                     if found[1])
-        self.words = ['SELECT']
-        with bounded():
-            self.columns = self.find_columns()
+        self.count = values.count_of(int(it.text[1:]) for it in tokens if it.kind == 'parameter')
+        self.columns = self.find_columns(known)
 
     def name(self) -> str:
         """The name in an error or a notice."""
         is_of_tables = all(inner.name.startswith(SCHEMA) for inner in self.inner)
         return 'the query around the ' + ('tables' if is_of_tables else 'parentheses')
 
-    def notice(self) -> str:
-        """The notice of what is computed outside the proofs."""
-        return f'{self.name()} is computed by sqlite, outside the proofs'
-
     def parameters(self, declared: Sequence[int]) -> 'list[int]':
         """The type numbers of the parameters: the inner queries' know theirs."""
         found = [values.TEXT.oid] * self.count
         for inner in self.inner:
             own = inner.prepared.parameters(declared)
-            named = {hole.number for hole in inner.prepared.holes if hole.number}
             found += [values.TEXT.oid] * (len(own) - len(found))
-            for number in named:
-                found[number - 1] = own[number - 1]
-        return [declared[at] if at < len(declared) and declared[at] else oid
-                for at, oid in enumerate(found)]
+            for hole in inner.prepared.holes:
+                if hole.number:
+                    found[hole.number - 1] = own[hole.number - 1]
+        return values.oids(declared, found)
 
-    def find_columns(self) -> 'list[Column]':
+    def find_columns(self, known: 'dict[str, Column]') -> 'list[Column]':
         """The columns, with the types that they have over one row of each table: with all
         conditions, or if no row meets them, without."""
-        database = self.sample(True)
         try:
-            found = self.run(database, self.text, [None] * self.count)
+            names, row = self.sample(True)
         except Problem as problem:
             if problem.state != VALUE:
                 raise  # of a function, which the sample's values may not be good for
-            database = self.sample(False)
-            found = self.run(database, self.text, [None] * self.count)
-        names = [MARKS.sub('', it[0]) for it in found.description]
-        row = found.fetchone()
-        if row is None:
-            with contextlib.suppress(Problem, sqlite3.Error):
-                row = self.run(database, without_conditions(self.text), [None] * self.count,
-                               FEW_STEPS).fetchone()
-        if row is None or len(row) != len(names):
-            row = [None] * len(names)
-        known = {column.name.upper(): column for _, columns in self.tables() for column in columns}
-        return [self.column(name, cell, known) for name, cell in zip(names, row)]
+            names, row = self.sample(False)
+        return [self.column(name, cell, known)
+                for name, cell in zip(names, row or [None] * len(names))]
 
-    def sample(self, has_rows: bool) -> sqlite3.Connection:
-        """An sqlite with the tables, each with one row or none."""
-        database = opened()
-        for name, columns in self.tables():
-            fill(database, name, columns,
-                 [[CELLS[column.kind.name] for column in columns]] if has_rows else [])
-        return database
+    def sample(self, has_rows: bool) -> 'tuple[list[str], Sequence[Any] | None]':
+        """The names of the columns, and a row of one row of each table, or of none."""
+        bounds, given = self.bounds(MOST_STEPS), [None] * self.count
+        with bounds.telling(self.name(), SYNTAX), opened(bounds) as database:
+            for name, columns in self.tables():
+                fill(database, name, columns,
+                     [[CELLS[column.kind.name] for column in columns]] if has_rows else [])
+            found = bounds.run(database, ''.join(self.parts), given)
+            row = found.fetchone()
+            names = [MARKS.sub('', it[0]) for it in found.description]
+            if row is None:
+                bounds.steps = FEW_STEPS
+                with contextlib.suppress(sqlite3.Error):
+                    row = bounds.run(database, ''.join(without_conditions(self.parts)),
+                                     given).fetchone()
+        return names, row if row and len(row) == len(names) else None
 
     def tables(self) -> 'Iterator[tuple[str, Sequence[Column]]]':
         """The tables that sqlite gets, with their columns."""
@@ -129,131 +116,91 @@ class Outer:
             return values.column(name, named.kind)
         return values.column(name, kind_of(name, cell))
 
-    def run(self, database: sqlite3.Connection, text: str, given: 'Sequence[Any]',
-            steps: int = MOST_STEPS) -> sqlite3.Cursor:
-        """Runs a text over tables that exist, until `stops` says that it is to end."""
-        has_ended, began = counts_down(steps), time.monotonic()
-        database.set_progress_handler(lambda: has_ended() or self.stops(began), 10_000)
-        database.set_authorizer(reads_only)
-        try:
-            return database.execute(text, list(given)[:self.count])
-        except (sqlite3.Error, sqlite3.Warning) as error:
-            raise self.problem(error, SYNTAX) from None
-
-    def problem(self, error: Exception, state: str) -> Problem:
-        """The report of an error of sqlite to a client, with this SQLSTATE if it has none."""
-        text = str(error)
-        lack = LACK.fullmatch(text)
-        state = STATES.get(lack[1] if lack else text, state)
-        return Problem(state, f'{self.name()}: {text}', hint='It is computed by sqlite.')
-
     def answer(self, given: Sequence[values.Value], most_rows: int,
-               run: 'Callable[[dialect.Prepared], Iterator[list[str]]]',
-               end_turn: Callable[[], None]) -> 'list[list[str | None]]':
-        """The rows, given the parameters and how an inner query is run. When all these are, the
-        turn at the engine is ended."""
-        cells = [values.around(value) for value in given]
-        with bounded():
-            database = self.filled(run)
+               run: 'Callable[[dialect.Prepared], Iterator[Sequence[Any]]]',
+               end_turn: Callable[[], None]) -> 'tuple[list[list[str | None]], Bounds]':
+        """The rows, given the parameters and how an inner query is run, and what holds their bytes.
+        When all inner queries are run, the turn at the engine is ended."""
+        cells = values.all_around(given, self.count)
+        bounds, kinds = self.bounds(MOST_STEPS), [column.kind for column in self.columns]
+        rows: 'list[list[str | None]]' = []
+        with bounds.telling(self.name(), VALUE), opened(bounds) as database:
+            self.fill(database, bounds, run)
             end_turn()
-            try:
-                rows = self.run(database, self.text, cells).fetchmany(most_rows + 1)
-            except sqlite3.Error as error:
-                raise self.problem(error, VALUE) from None
-        if len(rows) > most_rows:
-            raise Problem('54000', f'the answer has more than {most_rows} rows')
-        return [[shown(cell, column.kind) for cell, column in zip(row, self.columns)]
-                for row in rows]
+            for row in bounds.run(database, ''.join(self.parts), cells):
+                rows.append([shown(cell, kind) for cell, kind in zip(row, kinds)])
+                bounds.add(sum(map(sys.getsizeof, rows[-1])))
+                if len(rows) > most_rows:
+                    raise Problem('54000', f'the answer has more than {most_rows} rows')
+        return rows, bounds
 
-    def filled(self, run: 'Callable[[dialect.Prepared], Iterator[list[str]]]'
-               ) -> sqlite3.Connection:
-        """An sqlite with the rows of all tables."""
-        database, answers = opened(), []
-        wanted = {call.place for call in self.totals}
+    def fill(self, database: sqlite3.Connection, bounds: Bounds,
+             run: 'Callable[[dialect.Prepared], Iterator[Sequence[Any]]]') -> None:
+        """Gives an sqlite the rows of all tables."""
+        answers: 'dict[int, list[Sequence[Any]]]' = {call.place: [] for call in self.totals}
         for place, inner in enumerate(self.inner):
             columns, rows = inner.prepared.columns or [], run(inner.prepared)
-            answers.append(list(rows) if place in wanted else [])
-            fill(database, inner.name, columns,
-                 cells_of(columns, answers[place] if place in wanted else rows))
+            if place in answers:
+                for row in rows:
+                    answers[place].append(row)
+                    bounds.add(sum(map(sys.getsizeof, row)))
+            fill(database, inner.name, columns, cells_of(columns, answers.get(place, rows)))
         for call in self.totals:
             columns = call.columns()
             fill(database, call.name, columns, cells_of(columns, call.rows(answers[call.place])))
-        return database
 
 
-def outer_of(text: str, catalog: Catalog,
-             stops: Callable[[float], bool] = lambda _: False) -> Optional[Outer]:
-    """The outer query that a text is; None if it is none. What sqlite computes ends when
-    `stops`, which gets the moment of its begin, says so."""
-    if not (POSSIBLE.search(text) and OPENS.match(text)):
-        return None
-    inner: 'list[Inner]' = []
-    parts, at = [], 0
-    for begin, end in parentheses(text):
-        if begin < at or not INNER.match(text, begin + 1):
-            continue
-        # Blanks in front keep the places in the text.
-        prepared = prepared_of(' ' * (begin + 1) + text[begin + 1:end], text, catalog)
-        if prepared is None or prepared.columns is None \
-                or not isinstance(prepared.tree, (Sequenced, Stored)):
-            continue
-        name = f'answer_{len(inner) + 1}'
-        inner.append(Inner(name, prepared))
-        parts += [text[at:begin], name]
-        at = end + 1
-    rest = ''.join([*parts, text[at:]]).rstrip().rstrip(';')
-    named = tables_named(rest, catalog)
-    if not inner and (named is None or is_of_profile(text, catalog)):
-        return None
-    for name in named or []:
-        query = f'SELECT * FROM {name}'
-        inner.append(Inner(f'{SCHEMA}."{name}"',
-                           dialect.Prepared(query, dialect.lexed(query), catalog)))
-    return Outer(rest, inner, stops)
-
-
-def prepared_of(text: str, whole: str, catalog: Catalog) -> Optional[dialect.Prepared]:
-    """The statement that a part of a text is, or None if it has what is no token."""
-    try:
-        return dialect.Prepared(whole, dialect.lexed(text), catalog)
-    except Problem:
-        return None
-
-
-def is_of_profile(text: str, catalog: Catalog) -> bool:
-    """Whether a text is several statements, or one of the profile."""
-    try:
-        found = list(pieces(dialect.lexed(text)))
-    except Problem:
-        return False
-    return len(found) > 1 or all(dialect.Prepared(text, piece, catalog).tree is not None
-                                 for piece in found)
-
-
-def tables_named(text: str, catalog: Catalog) -> 'Optional[list[str]]':
-    """The tables of a catalog that a text has as words, if it names one as tools do."""
-    given = [found for found in NAMED.finditer(text) if found.lastgroup]
-    if not any(found['schema'] or found['quoted'].upper() in catalog.tables for found in given):
-        return None
-    words = {word.upper() for word in re.findall(r'\w+', text)}
-    return [name for name in catalog.tables if name in words]
-
-
-def hint(text: str, catalog: Catalog) -> str:
-    """A hint that a query which the profile does not have may be one that sqlite computes."""
-    words = {word.upper() for word in re.findall(r'\w+', text)}
-    name = next((name for name in catalog.tables if name in words), None)
-    return f'Or write "{name}" in double quotes: sqlite then computes the query over its current' \
-           ' rows, outside the proofs.' if name and OPENS.match(text) else ''
-
-
-def parentheses(text: str) -> 'Iterator[tuple[int, int]]':
-    """The places of each opening parenthesis and of the one that closes it, by the first."""
+def inner_queries(text: str, tokens: 'list[Token]',
+                  catalog: Catalog) -> 'Iterator[tuple[int, int, dialect.Prepared]]':
+    """The queries in parentheses, each with the places of these, without those within them."""
     open_at: 'list[int]' = []
-    pairs = []
-    for found in LEXEME.finditer(text):
-        if found[0] == '(':
-            open_at.append(found.start())
-        elif found[0] == ')' and open_at:
-            pairs.append((open_at.pop(), found.start()))
-    return iter(sorted(pairs))
+    pairs, at = [], 0
+    for place, token in enumerate(tokens):
+        if token.word == '(':
+            open_at.append(place)
+        elif token.word == ')' and open_at:
+            pairs.append((open_at.pop(), place))
+    for begin, end in sorted(pairs):
+        if begin < at or not (taken(tokens, begin + 1, 'VALIDTIME')
+                              or taken(tokens, begin + 1, 'SELECT', '*', 'FROM')):
+            continue
+        try:
+            prepared = dialect.Prepared(text, dialect.tokens_of(text, tokens[begin + 1:end]),
+                                        catalog)
+        except Problem:  # of a token that is not the profile's
+            continue
+        if prepared.columns is not None:
+            yield begin, end, prepared
+            at = end + 1
+
+
+def outer_of(text: str, tokens: 'list[Token]', catalog: Catalog,
+             bounds: Callable[[int], Bounds]) -> Optional[Outer]:
+    """The outer query that the tokens of a text are; None if they are none. `bounds` gives the
+    bounds of a run of so many steps."""
+    inner: 'list[Inner]' = []
+    rest, at = [], 0
+    for begin, end, prepared in inner_queries(text, tokens, catalog):
+        inner.append(Inner(f'answer_{len(inner) + 1}', prepared))
+        rest += [*tokens[at:begin], Token('answer', inner[-1].name, tokens[begin].offset, '')]
+        at = end + 1
+    rest += tokens[at:]
+    named = [it for it in lexis.references([it for it in rest if it.kind != 'blank'])
+             if it.schema in ('', 'PUBLIC') and not it.is_call]
+    if any(it.schema or it.is_quoted and it.name in catalog.tables for it in named):
+        for name in dict.fromkeys(it.name for it in named if it.name in catalog.tables):
+            query = f'SELECT * FROM {name}'
+            inner.append(Inner(f'{SCHEMA}."{name}"',
+                               dialect.Prepared(query, dialect.lexed(query), catalog)))
+    elif not inner:
+        return None
+    if len(inner) > MOST_INNER:
+        raise Problem('54000', f'a query has more than {MOST_INNER} queries in it')
+    return Outer(rest, inner, bounds)
+
+
+def hint(tokens: 'list[Token]', catalog: Catalog) -> str:
+    """A hint that a query which the profile does not have may be one that sqlite computes."""
+    name = next((it.word for it in tokens if it.word in catalog.tables), None)
+    return f'Or write "{name}" in double quotes: sqlite then computes the query over its current' \
+           ' rows, outside the proofs.' if name and tokens[0].word in ('SELECT', 'WITH') else ''

@@ -1,65 +1,37 @@
-"""A small client of the PostgreSQL protocol: it asks a server whether it serves."""
+"""Asks a server how it is, without being one of its clients."""
 import os
 import socket
 import struct
 import sys
-from typing import IO, Optional
+from typing import Optional
 
-from . import wire
+from .accounts import tell
+from .greeting import CHECK
 from .server import SOCKET
 
 SECONDS = 10
-
-
-def connected(folder: str, listen: Optional[str]) -> socket.socket:
-    """A connection to the server of a folder or of an address."""
-    if listen:
-        host, _, port = listen.rpartition(':')
-        return socket.create_connection((host.strip('[]'), int(port)), SECONDS)
-    found = socket.socket(socket.AF_UNIX)
-    found.settimeout(SECONDS)
-    found.connect(os.path.join(folder, SOCKET))
-    return found
-
-
-def started(connection: socket.socket, user: str) -> 'tuple[IO[bytes], bool]':
-    """The messages of a connection that is begun, and whether it asks for no proof."""
-    data = struct.pack('!i', 196608) + wire.text('user') + wire.text(user) + b'\0'
-    connection.sendall(struct.pack('!i', len(data) + 4) + data)
-    stream = connection.makefile('rb')
-    while True:
-        kind, fields = wire.received(stream)
-        if kind == b'Z':
-            return stream, True
-        if kind == b'E' or kind == b'R' and fields.number() != 0:
-            return stream, False
-
-
-def counters(connection: socket.socket, stream: IO[bytes]) -> 'dict[str, str]':
-    """The counters of the server."""
-    connection.sendall(wire.message(b'Q', wire.text('SHOW bitemporal.stats')))
-    found: 'dict[str, str]' = {}
-    while True:
-        kind, fields = wire.received(stream)
-        if kind == b'Z':
-            return found
-        if kind == b'D':
-            cells = [(fields.value() or b'').decode() for _ in range(fields.number('!H'))]
-            found[cells[0]] = cells[1]
+MOST_BYTES = 10_000  # of the answer
 
 
 def check(folder: str, listen: Optional[str]) -> int:
-    """Says on standard output what a server answers: its counters, or that it asks who calls.
-    Gives 0, or 2 if there is no answer."""
+    """Prints what a server answers: how its engine is, and its counters, if it tells them. Gives 0
+    if the engine is ready or busy, else 2."""
     try:
-        with connected(folder, listen) as connection:
-            stream, is_open = started(connection, 'check')
-            if not is_open:
-                print('serve: it answers, and asks who is there')
-                return 0
-            for name, count in counters(connection, stream).items():
-                print(name, count)
-            return 0
-    except (OSError, ValueError, wire.Gone) as error:
-        print(f'serve: no answer: {error}', file=sys.stderr)
+        if listen:
+            host, _, port = listen.rpartition(':')
+            connection = socket.create_connection((host.strip('[]'), int(port)), SECONDS)
+        else:
+            connection = socket.socket(socket.AF_UNIX)
+            connection.settimeout(SECONDS)
+            connection.connect(os.path.join(folder, SOCKET))
+        with connection, connection.makefile('rb') as stream:
+            connection.sendall(struct.pack('!ii', 8, CHECK))
+            answer = stream.read(MOST_BYTES).decode()
+        state = dict(line.partition(' ')[::2] for line in answer.splitlines()).get('engine')
+        if state is None:
+            raise ValueError('what listens there knows no check')
+    except (OSError, ValueError, OverflowError) as error:
+        tell(f'no answer: {error}')
         return 2
+    sys.stdout.write(answer)
+    return 0 if state in ('ready', 'busy') else 2

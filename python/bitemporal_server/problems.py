@@ -26,7 +26,7 @@ class Problem(Exception):
     def fields(self, severity: str = 'ERROR', note: str = '') -> 'dict[str, str]':
         """The fields of an ErrorResponse, by their letters."""
         return {'S': severity, 'V': severity, 'C': self.state, 'M': self.message, 'D': self.detail,
-                'H': '\n'.join(filter(None, [self.hint, note])), 't': self.table,
+                'H': '\n'.join(filter(None, [note, self.hint])), 't': self.table,
                 'P': '' if self.position is None else str(self.position + 1)}
 
 

@@ -8,8 +8,8 @@ import base64
 import hashlib
 import hmac
 import os
+import re
 import secrets
-import stat
 import threading
 import unicodedata
 from typing import Callable, NamedTuple, Optional, Tuple, Union
@@ -17,6 +17,8 @@ from typing import Callable, NamedTuple, Optional, Tuple, Union
 NAME = 'SCRAM-SHA-256'
 ROUNDS = 4096
 UNKNOWN = secrets.token_bytes(32)  # makes a salt for each unknown name, always the same
+KEY = '[A-Za-z0-9+/]{43}='
+VERIFIER = re.compile(rf'{NAME}\$[1-9][0-9]*:[A-Za-z0-9+/]+=*\${KEY}:{KEY}')
 
 
 class User(NamedTuple):
@@ -37,23 +39,32 @@ def verifier(password: str, salt: Optional[bytes] = None) -> str:
     """The verifier of a password."""
     salt = salt or os.urandom(16)
     normal = unicodedata.normalize('NFKC', password).encode()
-    key = hashlib.pbkdf2_hmac('sha256', normal, salt, ROUNDS)
+    return verifier_of(hashlib.pbkdf2_hmac('sha256', normal, salt, ROUNDS), salt)
+
+
+def verifier_of(key: bytes, salt: bytes) -> str:
+    """The verifier of what the rounds make of a password."""
     stored = hashlib.sha256(sign(key, b'Client Key')).digest()
     return f'{NAME}${ROUNDS}:{b64(salt)}${b64(stored)}:{b64(sign(key, b"Server Key"))}'
+
+
+def private(file: 'int | str', path: str) -> None:
+    """ValueError if others than its owner may read a file."""
+    if os.stat(file).st_mode & 0o077:
+        raise ValueError(f'{path} may be read by others: chmod 600 it')
 
 
 def read_users(path: str) -> 'dict[str, User]':
     """The users of a file. ValueError if other users may read it, or a line is no user."""
     users = {}
     with open(path, encoding='utf-8') as file:
-        if os.fstat(file.fileno()).st_mode & (stat.S_IRWXG | stat.S_IRWXO):
-            raise ValueError(f'{path} may be read by others: chmod 600 it')
+        private(file.fileno(), path)
         for number, line in enumerate(file, 1):
             fields = line.split()
             if not fields:
                 continue
             if len(fields) != 3 or fields[1] not in ('read', 'write') \
-                    or not fields[2].startswith(NAME + '$'):
+                    or not VERIFIER.fullmatch(fields[2]):
                 raise ValueError(f'{path}, line {number}: it is no USER read|write VERIFIER')
             users[fields[0]] = User(fields[1], fields[2])
     return users
@@ -103,7 +114,8 @@ class Exchange:
 
     def __init__(self, known: Optional[str], user: str, nonce: Optional[str] = None) -> None:
         self.is_known = known is not None
-        text = known or verifier(secrets.token_hex(8), sign(UNKNOWN, user.encode())[:16])
+        # (without the rounds, which a known user does not cost either)
+        text = known or verifier_of(secrets.token_bytes(32), sign(UNKNOWN, user.encode())[:16])
         _, rounds_and_salt, keys = text.split('$')
         self.rounds, self.salt = rounds_and_salt.split(':')
         self.stored, self.server = map(base64.b64decode, keys.split(':'))

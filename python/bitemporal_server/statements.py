@@ -1,154 +1,164 @@
 """The statements of one client: what each is, who answers it, and what it gives."""
 import contextlib
 import time
-from typing import TYPE_CHECKING, Iterator, NamedTuple, Optional, Sequence, Union
+from typing import TYPE_CHECKING, Iterator, Optional, Sequence, Union
 
-from bitemporal_tools.sql.lexis import pieces
-from bitemporal_tools.sql.tree import At, Create, Delete, Insert, Update
+from bitemporal_tools.sql.lexis import Token
+from bitemporal_tools.sql.parser import too_deep
 
-from . import dialect, engine, outer, problems, settings, values
-from .answer_tables import bounded
+from . import copying, dialect, engine, lexis, outer, values
+from .answer_tables import Bounds
 from .problems import Problem
-from .settings import Session
-from .system_tables import Question, question_of
-from .wire import Column
+from .rights import Rights, allow
+from .settings import COMMANDS, Command, Result, Session
+from .system_tables import Question, is_question
 
 if TYPE_CHECKING:
+    from .client import Client
     from .server import Server
 
 TAGS = {'create': 'CREATE TABLE', 'at': 'AT', 'insert': 'INSERT 0 {}', 'update': 'UPDATE {}',
         'delete': 'DELETE {}'}
-CHANGES = (Insert, Update, Delete)
-STATS = 'bitemporal.stats'
-NO_STATEMENT = 10  # the refusal of a text that the grammar does not have
+STATS = 'BITEMPORAL . STATS'
+LEAST_SECONDS, MOST_SECONDS = 0.001, 1e9  # that a statement has
 
-Statement = Union[dialect.Prepared, Question, outer.Outer]
-
-
-class Result(NamedTuple):
-    """The result of a statement: its tag, its columns (None if it has no rows), its rows, their
-    number, and a notice."""
-    tag: str
-    columns: Optional[Sequence[Column]]
-    rows: 'Iterator[Sequence[str | None]]'
-    number: int = 0
-    notice: str = ''
+Statement = Union[dialect.Prepared, Question, outer.Outer, Command]
 
 
 class Runner:
-    """Runs the statements of a client. Its turn at the engine lasts to the end of a message."""
+    """Runs the statements of a client. Its turn at the engine lasts to the end of a message.
+    `changes` are those that were done since the last Sync, `count` the tokens of the statement."""
 
-    def __init__(self, server: 'Server', client: engine.Waiting) -> None:
-        self.server, self.engine, self.client = server, server.engine, client
-        self.session, self.rights, self.name = Session(), 'write', ''
+    def __init__(self, server: 'Server', client: 'Client', may_write: bool, name: str) -> None:
+        self.server, self.client, self.may_write, self.name = server, client, may_write, name
+        self.engine: engine.Engine = server.engine
+        self.session: Session = Session()
         self.turn, self.has_turn = contextlib.ExitStack(), False
+        self.changes = self.count = 0
+        self.began = time.monotonic()  # the statement
 
     def take_turn(self) -> None:
         """Waits for the turn."""
         if not self.has_turn:
-            self.turn.enter_context(self.engine.turns.turn(self.client))
+            self.turn.enter_context(self.engine.turns.turn(self.client, self.left()))
             self.has_turn = True
 
     def end_turn(self) -> None:
         self.turn.close()
         self.has_turn = False
 
-    def stops(self, began: float) -> bool:
-        """Whether what sqlite has computed since then is to end."""
-        return self.client.is_cancelled or time.monotonic() - began > self.engine.most_seconds
+    def left(self) -> float:
+        """The seconds that statement_timeout leaves."""
+        until = self.began + (self.session.seconds or MOST_SECONDS)
+        return max(LEAST_SECONDS, until - time.monotonic())
 
-    def prepared(self, data: bytes) -> 'Iterator[Statement]':
-        """The statements of a text, each prepared when it is its turn."""
+    def bounds(self, steps: int) -> Bounds:
+        """The bounds of a run of sqlite."""
+        seconds = min(self.engine.most_seconds, self.left())
+        return Bounds(self.client, seconds, self.engine.held, steps)
+
+    def rights(self) -> Rights:
+        """The rights of the client as they are now."""
+        return Rights(self.may_write and not self.server.is_read_only, not self.server.has_clock,
+                      self.session.is_on('transaction_read_only'), self.session.block)
+
+    def statements(self, data: bytes) -> 'Iterator[Statement | copying.Copy]':
+        """The statements of a text, each prepared when it is its turn. COPY is one alone."""
         try:
             text = data.decode('utf-8')
         except UnicodeDecodeError:
             raise Problem('22021', 'the text is not UTF-8') from None
-        question = question_of(text, self.engine.catalog)
-        if question:
-            yield question
-            return
-        around = outer.outer_of(text, self.engine.catalog, self.stops)
-        if around:
-            yield around
-            return
-        for piece in pieces(dialect.lexed(text)):
-            self.take_turn()
-            yield dialect.Prepared(text, piece, self.engine.catalog)
+        if 'copy' in text.lower():
+            first = [next(it for it in piece if it.kind != 'blank').word
+                     for piece in lexis.pieces_of(text)]
+            if 'COPY' in first and len(first) > 1:
+                raise Problem('0A000', 'COPY is alone in a message', 'Nothing of it is done.')
+        for piece in lexis.pieces_of(text):
+            self.began = time.monotonic()
+            self.count = len(piece)
+            yield self.statement(text, piece)
+
+    def statement(self, text: str, tokens: 'list[Token]') -> 'Statement | copying.Copy':
+        """The statement that the tokens of a text are."""
+        catalog = self.engine.catalog.copy()  # others may add tables
+        bare = [token for token in tokens if token.kind != 'blank']
+        word = bare[0].word
+        if word in COMMANDS:
+            return Command(bare)
+        if word == 'COPY':
+            return copying.copy_of(bare, catalog)
+        is_query = word in ('SELECT', 'WITH') and not too_deep(bare) and \
+            not any(token.kind == 'bad' for token in bare)
+        if is_query and is_question(bare, catalog):
+            return Question(tokens)
+        problem: Optional[Problem] = None
+        try:
+            prepared = dialect.Prepared(text, dialect.tokens_of(text, bare), catalog)
+            if prepared.tree is not None or not is_query:
+                return prepared
+        except Problem as found:
+            problem = found
+        around = outer.outer_of(text, tokens, catalog, self.bounds) if is_query else None
+        if problem and not around:
+            raise problem
+        return around or prepared
 
     def result(self, statement: Statement, given: Sequence[values.Value]) -> Result:
         """Runs a statement with these values of its parameters, and notes it in the log."""
-        began, word = time.monotonic(), 'SELECT'
-        if isinstance(statement, dialect.Prepared) and statement.words:
-            word = statement.words[0]
+        began = time.monotonic()
         try:
             found = self.answer(statement, given)
         except Problem as problem:
-            self.server.accounts.statement(self.name, word, began, 0, problem.state)
+            self.server.accounts.statement(self.name, statement.word, began, 0, problem.state)
             raise
-        self.server.accounts.statement(self.name, word, began, found.number, 'ok')
+        self.server.accounts.statement(self.name, statement.word, began, found.number, 'ok')
         return found
 
     def answer(self, statement: Statement, given: Sequence[values.Value]) -> Result:
         """The result of a statement."""
+        if isinstance(statement, dialect.Prepared):
+            return self.by_engine(statement, given)
+        if not isinstance(statement, Command) or statement.word not in ('COMMIT', 'END', 'ROLLBACK',
+                                                                        'ABORT'):
+            allow(None, self.rights())
         if isinstance(statement, Question):
-            self.session.allow()
-            with bounded():
-                columns, rows = self.server.tables.answer(statement, given, self.engine.catalog,
-                                                          self.engine.version)
+            columns, rows = self.server.tables.answer(statement, given, self)
             return Result(f'SELECT {len(rows)}', columns, iter(rows), len(rows))
         if isinstance(statement, outer.Outer):
-            self.session.allow()
-            found = statement.answer(given, self.server.most_rows,
-                                     lambda inner: self.inner(inner, given), self.end_turn)
-            return Result(f'SELECT {len(found)}', statement.columns, iter(found), len(found),
-                          statement.notice())
-        if statement.words[:1] == ['SHOW'] and ''.join(
-                token.text for token in statement.tokens[1:]).lower() == STATS:
-            counters = self.server.accounts.shown()
+            found, bounds = statement.answer(
+                given, self.server.most_rows, lambda inner: self.by_engine(inner, given).rows,
+                self.end_turn)
+            return Result(f'SELECT {len(found)}', statement.columns, held(found, bounds),
+                          len(found),
+                          f'{statement.name()} is computed by sqlite, outside the proofs')
+        if statement.word == 'SHOW' and statement.words.upper() == STATS:
             return Result('SHOW', [values.column('name', values.TEXT),
-                                   values.column('count', values.INTEGER)], iter(counters))
-        answered = self.session.answer(statement.words, [it.text for it in statement.tokens],
-                                       statement.tree is not None)
-        if answered:
-            return Result(answered.tag, answered.columns, iter(answered.rows))
-        return self.by_engine(statement, given)
-
-    def inner(self, statement: dialect.Prepared,
-              given: Sequence[values.Value]) -> 'Iterator[list[str]]':
-        """The rows of a query in parentheses."""
-        found = self.by_engine(statement, given)
-        return (list(row) for row in found.rows)  # type: ignore[arg-type]
+                                   values.column('count', values.INTEGER)],
+                          iter(self.server.accounts.shown()))
+        return self.session.answer(statement)
 
     def by_engine(self, statement: dialect.Prepared, given: Sequence[values.Value]) -> Result:
         """Runs a statement by the engine."""
-        self.take_turn()
         bound = statement.bound(given)
-        data = dialect.part_of(bound)
-        if isinstance(bound.tree, (*CHANGES, At, Create)):
-            self.allow(bound.tree)
-            outcome = self.engine.change(data, bound.tree)
-        else:
-            outcome = self.engine.query(data, self.client)
-        if outcome.kind == 'refused':
-            problem = problems.refusal(statement.text, bound, self.engine.catalog, outcome.code,
-                                       outcome.day)
-            if outcome.code == NO_STATEMENT:
-                problem.hint += outer.hint(statement.text, self.engine.catalog)
-            raise problem
+        try:
+            allow(bound.tree, self.rights())
+            self.take_turn()
+            outcome = self.engine.run(bound, self.rights(), self.client, statement.text,
+                                      self.left())
+        except Problem as problem:
+            if bound.tree is None:
+                problem.hint += outer.hint(statement.tokens, self.engine.catalog)
+            raise
         if outcome.kind == 'done':
+            self.changes += 1
             self.server.accounts.add('changes')
-            return Result(TAGS[outcome.what].format(outcome.number), None, iter(()))
+            return Result(TAGS[outcome.what].format(outcome.number))
         columns = dialect.columns_of(bound.tree, self.engine.catalog)
-        return Result(f'SELECT {outcome.number}', columns, engine.rows_of(outcome.rows),
+        return Result(f'SELECT {outcome.number}', columns, engine.rows_of(outcome),
                       outcome.number)
 
-    def allow(self, tree: object) -> None:
-        """Refuses a change if none may be made."""
-        if self.rights == 'read' or self.server.is_read_only:
-            raise Problem('42501', 'nothing is changed here: this user may only read')
-        if self.session.block == 'T':
-            raise Problem(*settings.NO_BLOCK)
-        if self.server.has_clock and isinstance(tree, At):
-            raise Problem('0A000', 'no AT: this server sets the clock at each change, by the time'
-                          ' of the machine', hint='Start it with --script-clock for scripts'
-                          ' that have their moments.')
+
+def held(rows: 'list[list[str | None]]', bounds: Bounds) -> 'Iterator[list[str | None]]':
+    """Rows, whose bytes are held until all are given or nobody has them."""
+    yield from rows
+    bounds.share.drop()

@@ -3,45 +3,34 @@ the fewest periods, by the options that tools/totals has.
 
     SELECT * FROM totals((VALIDTIME SELECT DISTINCT ENO, DEPT, PAY FROM EMP), '--by DEPT --count')
 """
-import re
-from typing import Iterable, NamedTuple, Sequence
+from typing import Any, Iterable, NamedTuple, Sequence
 
 from bitemporal_tools.command_line import Fault
 from bitemporal_tools.days.numbers import iso, ordinal
 from bitemporal_tools.days.rows import DayRow, DayTable
+from bitemporal_tools.days.steps import Step
 from bitemporal_tools.days.totals import totals
+from bitemporal_tools.sql.lexis import Token
 
 from . import values
+from .lexis import taken, text_of
 from .problems import SYNTAX, Problem
 from .wire import Column
 
-CALL = re.compile(r"\btotals\s*\(\s*(answer_[0-9]+)\s*,\s*'([^']*)'\s*\)", re.I)
 PERIOD = ['valid_from', 'valid_to', 'held', 'absent']
 
 
-class Wanted(NamedTuple):
-    """The options: columns of groups and of sums, and whether rows are counted and gaps left in."""
-    by: str = ''
-    sums: str = ''
-    counts: bool = False
-    keeps_gaps: bool = False
-
-
-def wanted(text: str) -> Wanted:
-    """The options that a text has."""
-    given = {'by': '', 'sum': ''}
-    flags = {'count': False, 'zero': False}
+def wanted(text: str) -> 'dict[str, Any]':
+    """The options that a text has: columns of groups and of sums, and whether rows are counted and
+    gaps left in."""
+    found: 'dict[str, Any]' = {'--by': '', '--count': False, '--sum': '', '--zero': False}
     words = iter(text.split())
     for word in words:
-        name = word[2:]
-        if word.startswith('--') and name in flags:
-            flags[name] = True
-        elif word.startswith('--') and name in given:
-            given[name] = next(words, '')
-        else:
+        if word not in found:
             raise Problem(SYNTAX, f'totals has no option {word}',
                           hint='It has --by COLUMNS, --count, --sum COLUMNS and --zero.')
-    return Wanted(given['by'], given['sum'], flags['count'], flags['zero'])
+        found[word] = next(words, '') if word in ('--by', '--sum') else True
+    return found
 
 
 class Totals(NamedTuple):
@@ -49,15 +38,13 @@ class Totals(NamedTuple):
     name: str
     place: int
     inner: 'list[Column]'
-    wanted: Wanted
+    wanted: 'dict[str, Any]'
 
     def columns(self) -> 'list[Column]':
         """The columns of the totals: the groups', the counts and sums, and the period."""
-        places = self.table([]).places(self.wanted.by)
-        groups = [self.inner[place] for place in places]
-        added = ['COUNT'] * self.wanted.counts + [
-            f'SUM_{name.strip().upper()}' for name in self.wanted.sums.split(',') if name.strip()]
-        return [*groups, *(values.column(name, values.INTEGER) for name in added),
+        names, _ = self.totals([])
+        return [*(self.inner[place] for place in self.table([]).places(self.wanted['--by'])),
+                *(values.column(name, values.INTEGER) for name in names),
                 *(values.column(name, values.DATE) for name in PERIOD[:2])]
 
     def table(self, rows: Iterable[Sequence[str]]) -> DayTable:
@@ -71,26 +58,36 @@ class Totals(NamedTuple):
                         [DayRow(tuple(row[:-4]), ordinal(row[-4]), ordinal(row[-3]))
                          for row in rows])
 
-    def rows(self, rows: Iterable[Sequence[str]]) -> 'list[list[str]]':
-        """The rows of the totals."""
+    def totals(self, rows: Iterable[Sequence[str]]) -> 'tuple[list[str], list[Step]]':
+        """The names of the counts and sums, and their steps."""
         try:
-            found = totals(self.table(rows), self.wanted.by, self.wanted.counts,
-                           self.wanted.sums, self.wanted.keeps_gaps)[1]
+            return totals(self.table(rows), *self.wanted.values())
         except Fault as fault:
             raise Problem(SYNTAX, str(fault)) from None
+
+    def rows(self, rows: Iterable[Sequence[str]]) -> 'list[list[str]]':
+        """The rows of the totals."""
         return [[*step.group, *map(str, step.totals), iso(step.start), iso(step.end)]
-                for step in found]
+                for step in self.totals(rows)[1]]
 
 
-def calls(text: str, columns: 'Sequence[Sequence[Column]]') -> 'tuple[str, list[Totals]]':
-    """A text with a table's name in the place of each call, and the calls. `columns` are columns of
-    the answers."""
+def calls(tokens: 'list[Token]',
+          columns: 'Sequence[Sequence[Column]]') -> 'tuple[list[Token], list[Totals]]':
+    """Tokens with a table's name in the place of each call, and the calls. `columns` are those of
+    the answers, each of which is a token of the kind answer, named by its number."""
     found: 'list[Totals]' = []
-
-    def named(call: 're.Match[str]') -> str:
-        place = int(call[1].rpartition('_')[2]) - 1
-        found.append(Totals(f'totals_{len(found) + 1}', place, list(columns[place]),
-                            wanted(call[2])))
-        return found[-1].name
-
-    return CALL.sub(named, text), found
+    rest: 'list[Token]' = []
+    at = 0
+    while at < len(tokens):
+        token = tokens[at]
+        is_call = token.word == 'TOTALS'
+        end = is_call and taken(tokens, at, 'TOTALS', '(', 'answer', ',', 'text', ')')
+        if end:
+            [answer, options] = [it for it in tokens[at:end] if it.kind in ('answer', 'text')]
+            place = int(answer.text.rpartition('_')[2]) - 1
+            found.append(Totals(f'totals_{len(found) + 1}', place, list(columns[place]),
+                                wanted(text_of(options))))
+            token = answer._replace(text=found[-1].name)
+        rest.append(token)
+        at = end or at + 1
+    return rest, found

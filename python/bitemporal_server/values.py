@@ -1,8 +1,9 @@
 """Values: the cells of answers, and the parameters of statements."""
 import datetime
+import math
 import re
 import struct
-from typing import Iterable, NamedTuple, Optional
+from typing import Iterable, NamedTuple, Optional, Sequence
 
 from bitemporal_tools.sql.lexis import Token
 from bitemporal_tools.sql.literals import FOREVER
@@ -14,6 +15,7 @@ INTEGER, VARCHAR = Kind('INTEGER', 20, 8), Kind('VARCHAR', 1043, -1)
 DATE, TIMESTAMP = Kind('DATE', 1082, 4), Kind('TIMESTAMP', 1114, 8)
 TEXT, BOOLEAN, REAL = Kind('TEXT', 25, -1), Kind('BOOLEAN', 16, 1), Kind('REAL', 701, 8)
 PLACES = Kind('PLACES', 1005, -1)  # an array of small numbers, as text
+NUMERIC = Kind('NUMERIC', 1700, -1)  # of sqlite alone
 KINDS = {kind.name: kind for kind in (INTEGER, VARCHAR, DATE, TIMESTAMP)}
 # The types of parameters, by PostgreSQL's numbers of types.
 DECLARED = {20: 'INTEGER', 21: 'INTEGER', 23: 'INTEGER', 18: 'VARCHAR', 19: 'VARCHAR',
@@ -29,6 +31,12 @@ OPEN_END = '9999-12-31'
 INFINITE = {struct.pack('!i', 2 ** 31 - 1): 'infinity', struct.pack('!q', 2 ** 63 - 1): 'infinity',
             struct.pack('!i', -2 ** 31): '0001-01-01', struct.pack('!q', -2 ** 63): '0001-01-01'}
 FIRST_DAY = datetime.date(2000, 1, 1)
+# Values of types, as they are written.
+NUMBER = re.compile('[-+]?[0-9]+')
+REAL_NUMBER = re.compile(r'[-+]?(?:[0-9]+\.?[0-9]*|\.[0-9]+)(?:e[-+]?[0-9]+)?'
+                         r'|[-+]?inf(?:inity)?|nan')
+SWITCHES = {**dict.fromkeys(('t', 'true', 'y', 'yes', 'on', '1'), 1),
+            **dict.fromkeys(('f', 'false', 'n', 'no', 'off', '0'), 0)}
 
 
 class Value(NamedTuple):
@@ -54,19 +62,21 @@ def microseconds(text: str) -> int:
         + clock.microsecond
 
 
-def cell(text: Optional[str], kind: Kind, form: int) -> Optional[bytes]:
+def cell(text: str, kind: Kind, form: int) -> bytes:
     """The bytes of a cell: its text (form 0), or as the type's numbers (form 1)."""
-    if text is None:
-        return None
     if form == 0 or kind in (VARCHAR, TEXT):
         return text.encode('utf-8')
-    if kind is BOOLEAN:
-        return bytes([text == 't'])
-    if kind is INTEGER:
-        return struct.pack('!q', int(text))
-    if kind is REAL:
-        return struct.pack('!d', float(text))
-    return struct.pack('!i', days(text)) if kind is DATE else struct.pack('!q', microseconds(text))
+    try:
+        if kind is BOOLEAN:
+            return bytes([text == 't'])
+        if kind is REAL:
+            return struct.pack('!d', float(text))
+        number = days(text) if kind is DATE else microseconds(text) if kind is TIMESTAMP else \
+            int(text)
+        return struct.pack('!i' if kind is DATE else '!q', number)
+    except (struct.error, ValueError, OverflowError):
+        raise Problem('22003' if kind in (INTEGER, REAL) else '22007',
+                      f'{text!r} is no {kind.name}') from None
 
 
 def parameter(data: Optional[bytes], oid: int, form: int, number: int) -> Value:
@@ -78,7 +88,9 @@ def parameter(data: Optional[bytes], oid: int, form: int, number: int) -> Value:
         raise wrong_type(number, f'number {oid}')
     try:
         return Value(binary_text(data, oid) if form else data.decode('utf-8'), declared)
-    except (struct.error, ValueError, OverflowError):
+    except UnicodeDecodeError:
+        raise Problem('22021', f'parameter ${number} is not UTF-8') from None
+    except (struct.error, ValueError, OverflowError, IndexError):
         raise Problem('22P03', f'parameter ${number} is no value of its type') from None
 
 
@@ -90,6 +102,12 @@ def count_of(numbers: Iterable[int]) -> int:
     return count
 
 
+def oids(declared: Sequence[int], own: Iterable[int]) -> 'list[int]':
+    """The type numbers of parameters: those that are declared, else their own."""
+    return [declared[at] if at < len(declared) and declared[at] else oid
+            for at, oid in enumerate(own)]
+
+
 def wrong_type(number: int, name: str) -> Problem:
     """The refusal of a parameter for its type."""
     return Problem('42804', f'parameter ${number} has the type {name}',
@@ -97,15 +115,27 @@ def wrong_type(number: int, name: str) -> Problem:
                    'Keep money as cents, and give a datetime without tzinfo.')
 
 
-def around(value: Value) -> 'str | int | float | None':
-    """A value as sqlite has it."""
-    if value.text is None:
-        return None
-    if value.declared == 'BOOLEAN':
-        return int(value.text.lower()[:1] in 't1y')
-    if value.declared == 'REAL':
-        return float(value.text)
-    return int(value.text) if value.declared == 'INTEGER' else value.text
+def around(number: int, value: Value) -> 'str | int | float | None':
+    """The value of the parameter of a number as sqlite has it."""
+    text, declared = value
+    if text is None or declared not in ('BOOLEAN', 'REAL', 'INTEGER'):
+        return text
+    text = text.strip().lower()
+    pattern = NUMBER if declared == 'INTEGER' else REAL_NUMBER
+    if text not in SWITCHES if declared == 'BOOLEAN' else not pattern.fullmatch(text):
+        raise Problem('22P02', f'parameter ${number} is no {declared}: {text[:40]!r}')
+    found = SWITCHES[text] if declared == 'BOOLEAN' else \
+        int(text) if declared == 'INTEGER' and len(text) < 21 else float(text)
+    if not math.isfinite(found) or declared == 'INTEGER' and not -2 ** 63 <= found < 2 ** 63:
+        raise Problem('22003', f'parameter ${number} is beyond the numbers here: {text[:40]}')
+    return found
+
+
+def all_around(given: Sequence[Value], count: int) -> 'list[str | int | float | None]':
+    """The values of so many parameters as sqlite has them."""
+    if len(given) < count:
+        raise Problem('42P02', f'there is no parameter ${len(given) + 1}')
+    return [around(*it) for it in enumerate(given, 1)][:count]
 
 
 def binary_text(data: bytes, oid: int) -> str:
@@ -127,21 +157,14 @@ def binary_text(data: bytes, oid: int) -> str:
     return data.decode('utf-8') if declared != 'BOOLEAN' else 'ft'[data[0]]
 
 
-def of_one_day(text: str, declared: Optional[str], kind: Optional[str]) -> 'tuple[str, str | None]':
-    """A date for a moment, or a moment at midnight for a date, in the type that is asked for."""
-    if declared == 'DATE':
-        return text + ' 00:00:00', kind
-    if text[10:] in (' 00:00:00', 'T00:00:00'):
-        return text[:10], kind
-    return text, declared
-
-
 def tokens_of(value: Value, kind: Optional[str], offset: int) -> 'list[Token]':
     """A value as the tokens of a literal. `kind` is the type that its place asks for, if one is
     known; a value of another type keeps its own, so that the engine refuses it by 30."""
     text, declared = value.text or '', value.declared
-    if {declared, kind} == {'DATE', 'TIMESTAMP'}:
-        text, declared = of_one_day(text, declared, kind)
+    if (declared, kind) == ('DATE', 'TIMESTAMP'):
+        declared = kind  # at midnight
+    elif kind == 'DATE' and declared == 'TIMESTAMP' and text[10:] in (' 00:00:00', 'T00:00:00'):
+        text, declared = text[:10], kind
     kind = declared or kind or 'VARCHAR'
     if kind == 'INTEGER':
         found = re.fullmatch('([-+]?)([0-9]+)', text.strip())

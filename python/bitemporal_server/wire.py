@@ -110,18 +110,11 @@ def row_description(columns: Sequence[Column], formats: Sequence[int]) -> bytes:
 
 def data_row(cells: Sequence[Optional[bytes]]) -> bytes:
     """A row of an answer."""
-    parts = [struct.pack('!H', len(cells))]
-    for cell in cells:
-        parts.append(b'\xff\xff\xff\xff' if cell is None else struct.pack('!i', len(cell)) + cell)
-    return message(b'D', *parts)
+    return message(b'D', struct.pack('!H', len(cells)), *(
+        struct.pack('!i', -1) if it is None else struct.pack('!i', len(it)) + it for it in cells))
 
 
 def response(kind: bytes, fields: 'dict[str, str]') -> bytes:
     """An ErrorResponse (E) or a NoticeResponse (N)."""
     return message(kind, *(code.encode() + text(value) for code, value in fields.items() if value),
                    b'\0')
-
-
-def copy_in(columns: int) -> bytes:
-    """A CopyInResponse: the client is asked for lines of so many columns, as text."""
-    return message(b'G', struct.pack(f'!bH{columns}h', 0, columns, *[0] * columns))

@@ -3,9 +3,9 @@
 bi_queries/, which are written from the tools' sources and not recorded.
 
 A text begins after an empty line. Before it are lines of comment: `--= CELL | CELL` for each row
-that it gives (`none` if it gives none, `done` if it has no answer), `--? none` if the log has a
-line that it got an empty answer, `--! SQLSTATE` if it is refused; `--$ VALUE` is a parameter, of
-a type if it is a number, and `--: NAME, NAME` are the columns that are looked at.
+that it gives (`none` if it gives none, `done` if it has no answer), `--! SQLSTATE` if it is
+refused, and `--? SQLSTATE` if the log has a line of that; `--$ VALUE` is a parameter, of a type if
+it is a number, and `--: NAME, NAME` are the columns that are looked at.
 
 If PostgreSQL is installed, each text is a statement of its own, and those that name no columns
 give the same rows there, unless `--~ WHY` says that they do not.
@@ -36,7 +36,7 @@ INSERT INTO EMP VALUES (1, 'Ann', DATE '2020-01-01', DATE '9999-12-31'),
 INSERT INTO PAY VALUES (1, 310000, DATE '2024-01-01', DATE '9999-12-31'),
  (2, 298050, DATE '2024-01-01', DATE '2024-07-01'),
  (2, 305000, DATE '2024-07-01', DATE '2025-01-01')"""
-EMPTY = 'got an empty answer'
+NOTED = 'a question is refused'
 # The tables and rows of SCRIPT as PostgreSQL has them.
 OTHER = """CREATE TABLE "EMP" ("ENO" BIGINT PRIMARY KEY, "NAME" VARCHAR(20) NOT NULL,
  "S" DATE NOT NULL, "E" DATE NOT NULL, "SS" TIMESTAMP NOT NULL, "SE" TIMESTAMP NOT NULL);
@@ -120,7 +120,7 @@ class Queries(unittest.TestCase):
                     self.server.log.truncate(self.server.log.seek(0))
                     found = self.ask(query, is_extended)
                     self.assertEqual(found, query.said['='] + query.said['?'] + query.said['!'])
-                    self.assertEqual(EMPTY in self.server.log.getvalue(), bool(query.said['?']))
+                    self.assertEqual(NOTED in self.server.log.getvalue(), bool(query.said['?']))
 
     def test_garbled(self) -> None:
         """Each text with some of its tokens changed is answered or refused, and no connection ends.

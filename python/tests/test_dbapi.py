@@ -126,6 +126,67 @@ class Connections(unittest.TestCase):
         self.cursor.execute('SELECT * FROM PAY')
         self.assertEqual(self.cursor.rowcount, 1)
 
+    def test_rollback(self) -> None:
+        """A change that is done is not said to be taken back."""
+        self.connection.commit()
+        self.cursor.execute('SELECT * FROM PAY')
+        with self.assertRaises(dbapi.DataError):
+            self.cursor.execute(INSERT, (1, 'x' * 21, BORN, START, END))
+        self.connection.rollback()  # nothing was changed
+        self.fill(1)
+        for _ in range(2):
+            with self.assertRaises(dbapi.NotSupportedError):
+                self.connection.rollback()
+        with self.assertRaises(dbapi.IntegrityError):
+            self.cursor.executemany(INSERT, [(number, 'x', BORN, START, END)
+                                             for number in (5, 6, 5, 7)])
+        with self.assertRaises(dbapi.NotSupportedError):
+            self.connection.rollback()
+        self.cursor.execute('SELECT * FROM PAY')
+        self.assertEqual([row[0] for row in self.cursor.fetchall()], [0, 5, 6])
+        self.connection.commit()
+        self.connection.rollback()
+
+    def test_marks(self) -> None:
+        """A question mark in a token is none of a parameter, however the token is written."""
+        texts = (r"E'it\'s ok?'", "'it''s ok?'", r"e'\'\\?\''", "'a?' /* ? it's */",
+                 "'b?' -- ?\n")
+        for number, text in enumerate(texts):
+            self.cursor.execute(f'INSERT /* ? */ INTO "PAY" VALUES (?, {text}, ?, ?, ?)',
+                                (number, BORN, START, END))
+        self.cursor.execute('SELECT * FROM PAY')
+        self.assertEqual([row[1] for row in sorted(self.cursor.fetchall())],
+                         ["it's ok?", "it's ok?", "'\\?'", 'a?', 'b?'])
+        for text in ('a\nb', 'a\0b', "a'b", "a\\'b", '\u2028', '?', '$1', 'x\n.backup y\n',
+                     "'; --"):
+            self.cursor.execute('UPDATE PAY SET NAME = ? WHERE ENO = 1', (text,))
+            self.cursor.execute('SELECT * FROM PAY WHERE NAME = ?', (text,))
+            self.assertEqual([row[1] for row in self.cursor.fetchall()], [text])
+        for text in ('\ud800', '.tables', ".x 'y\nDELETE FROM PAY;\n--'"):
+            with self.subTest(text=text), self.assertRaises(dbapi.Error):
+                self.cursor.execute(*((text,) if text[0] == '.' else (
+                    'UPDATE PAY SET NAME = ?', (text,))))
+        self.cursor.execute('SELECT * FROM PAY')
+        self.assertEqual(self.cursor.rowcount, len(texts))
+
+    def test_clock_ahead(self) -> None:
+        """A store whose clock is ahead is opened if that is asked for, and keeps what it has."""
+        store = f'{self.store}.ahead'
+        with bitemporal_tools.connect(store, script_clock=True) as connection:
+            cursor = connection.cursor()
+            cursor.execute(CREATE)
+            cursor.execute("AT TIMESTAMP '2062-01-01 00:00:00'")
+            cursor.execute(INSERT, (1, 'Ann', BORN, START, END))
+        with self.assertRaises(dbapi.OperationalError):
+            bitemporal_tools.connect(store)
+        with bitemporal_tools.connect(store, clock_ahead=True) as connection:
+            cursor = connection.cursor()
+            with self.assertRaises(dbapi.OperationalError) as caught:
+                cursor.execute('DELETE FROM PAY')
+            self.assertEqual(caught.exception.sqlstate, '55000')
+            cursor.execute(INSERT, (2, 'Max', BORN, START, END))
+            self.assertEqual(len(cursor.execute('SELECT * FROM PAY').fetchall()), 2)
+
     def test_closing(self) -> None:
         self.fill(1)
         self.connection.commit()

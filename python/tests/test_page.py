@@ -125,21 +125,21 @@ class Requests(unittest.TestCase):
         is done, and continues."""
         page = Page(True)
         self.addCleanup(page.close)
-        page.engine.process.send_signal(signal.SIGSTOP)
-        threading.Timer(0.3, page.engine.process.kill).start()
+        page.engine.session.process.send_signal(signal.SIGSTOP)
+        threading.Timer(0.3, page.engine.session.process.kill).start()
         [refused] = page.ask('/ask', text='DELETE FROM PAY WHERE ENO = 101')['results']
-        self.assertEqual(refused['message'], 'the program ended within a change')
+        self.assertEqual(refused['message'], 'the engine ended within the change')
         [answer] = page.ask('/ask', text='SELECT * FROM PAY WHERE ENO = 102')['results']
         self.assertEqual(len(answer['rows']), 1)
 
     def test_who_may_ask(self) -> None:
         token, port = self.page.web.token, self.page.web.server_port
-        self.assertEqual(self.page.request('GET', f'/?token={token}')[0], 200)
-        cookie = f'bitemporal{port}={token}'
-        self.assertEqual(self.page.request('GET', '/page.js', Cookie=cookie)[0], 200)
+        for path in (f'/?token={token}', '/page.js', '/page.css'):
+            self.assertEqual(self.page.request('GET', path)[0], 200)
         requests: 'list[tuple[int, str, str, dict[str, str]]]' = [
             (403, 'GET', '/', {}), (403, 'GET', '/?token=x', {}), (403, 'POST', '/tables', {}),
-            (403, 'GET', '/page.js', {'Cookie': f'bitemporal{port}=x'}),
+            (403, 'GET', '/', {'Cookie': f'bitemporal{port}={token}'}),
+            (403, 'POST', '/page.js', {}), (403, 'GET', '/page.js', {'Host': 'example.org'}),
             (403, 'GET', f'/?token={token}', {'Host': 'example.org'}),
             (403, 'POST', f'/tables?token={token}', {'Origin': 'http://example.org'}),
             (404, 'GET', f'/etc/passwd?token={token}', {}),
@@ -151,10 +151,23 @@ class Requests(unittest.TestCase):
         for status, method, path, headers in requests:
             with self.subTest(method=method, path=path, headers=headers):
                 self.assertEqual(self.page.request(method, path, b'{}', **headers)[0], status)
-        for given in ({'table': 'PAY', 'day': "2024-01-01' OR"}, {'table': 'PAYS'}, {}, []):
-            status, _ = self.page.request('POST', f'/state?token={token}',
+        for path, given in (
+                ('state', {'table': 'PAY', 'day': "2024-01-01' OR"}), ('state', {'table': 'PAYS'}),
+                ('state', {}), ('state', []), ('changes', {'table': 'PAY', 'first': None}),
+                ('changes', {'table': 'PAY', 'first': "2024-01-01'; SELECT", 'second': '1'})):
+            status, _ = self.page.request('POST', f'/{path}?token={token}',
                                           json.dumps(given).encode())
             self.assertEqual(status, 400, given)
+
+    def test_ended_program(self) -> None:
+        """If the program has ended for good, each question is answered so."""
+        self.page.engine.is_broken = True
+        path = f'?token={self.page.web.token}'
+        for question in ('tables', 'range', 'state'):
+            status, text = self.page.request('POST', f'/{question}{path}', b'{"table": "PAY"}')
+            self.assertEqual((status, b'has ended' in text), (503, True), text)
+        [refused] = self.page.ask('/ask', text='SELECT * FROM PAY')['results']
+        self.assertEqual(refused['kind'], 'refused')
 
 
 @unittest.skipUnless(browser.installed(), 'apt-get install chromium-headless-shell')
@@ -252,7 +265,7 @@ class Command(unittest.TestCase):
     def test_command(self) -> None:
         with tempfile.TemporaryDirectory() as folder:
             words = [sys.executable, str(ROOT / 'tools/serve'), f'{folder}/a.store',
-                     '--page']
+                     '--page', '--write']
             with subprocess.Popen(words, stderr=subprocess.PIPE) as process:
                 assert process.stderr is not None
                 address = process.stderr.readline().decode().split()[-1]

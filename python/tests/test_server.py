@@ -283,7 +283,6 @@ class Clients(unittest.TestCase):
             " WHERE table_name = 'PAY' ORDER BY ordinal_position")[0]
         self.assertEqual(found.rows[1], ['NAME', 'character varying'])
         self.assertEqual(self.client.query('SELECT 1 + 1')[0].rows, [['2']])
-        self.assertEqual(self.client.query('SELECT * FROM pg_stat_nothing')[0].rows, [])
 
     def test_patterns_that_take_long(self) -> None:
         began = time.monotonic()
@@ -338,7 +337,7 @@ class Clients(unittest.TestCase):
                  f'\\{command}', 'store'], capture_output=True, check=False)
             with self.subTest(command=command):
                 self.assertNotIn(b'ERROR', done.stderr.replace(b'ERROR:  function', b''))
-                self.assertNotIn('empty answer', self.server.log.getvalue())
+                self.assertNotIn('is refused', self.server.log.getvalue())
                 if command == 'd+ PAY':
                     self.assertRegex(done.stdout.decode(), r'NAME +\| character varying\(20\) +\|'
                                      r'.*extended')
@@ -683,29 +682,30 @@ class Safety(unittest.TestCase):
 
     def test_killed_program(self) -> None:
         """If the program dies in a change, the client learns that it is not known whether the
-        change is done, and the server ends with 2."""
+        change is done, and the store is opened again for the next statement."""
         with served() as store, connected(store) as client:
             client.query(CREATE)
             client.query(INSERT.format(1, 'Ann'))
-            store.engine.process.send_signal(signal.SIGSTOP)
-            threading.Timer(0.3, store.engine.process.kill).start()
+            store.engine.session.process.send_signal(signal.SIGSTOP)
+            threading.Timer(0.3, store.engine.session.process.kill).start()
             with self.assertRaises(Refused) as caught:
                 client.query(INSERT.format(2, 'Max'))
             self.assertEqual(caught.exception.state, '40003')
-        self.assertEqual(store.status, 2)
+            self.assertIn(len(client.query('SELECT * FROM PAY')[0].rows), (1, 2))
+        self.assertEqual(store.status, 0)
 
     def test_slow_queries(self) -> None:
         """A query that takes too long, or that its client cancels, is ended. The next is run."""
         with served(options={'seconds': 1}) as store, connected(store) as client:
             client.query(CREATE)
             client.query(INSERT.format(1, 'Ann'))
-            store.engine.process.send_signal(signal.SIGSTOP)
+            store.engine.session.process.send_signal(signal.SIGSTOP)
             with self.assertRaises(Refused) as caught:
                 client.query('SELECT * FROM PAY')
             self.assertEqual(caught.exception.state, '57014')
             store.engine.most_seconds = 60  # on a busy machine a query may take a second
             self.assertEqual(len(client.query('SELECT * FROM PAY')[0].rows), 1)
-            store.engine.process.send_signal(signal.SIGSTOP)
+            store.engine.session.process.send_signal(signal.SIGSTOP)
             threading.Timer(0.5, self.cancel, [store, client.key]).start()
             with self.assertRaises(Refused) as caught:
                 client.query('SELECT * FROM PAY')

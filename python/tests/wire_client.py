@@ -28,16 +28,18 @@ class Answer(NamedTuple):
 
 
 class WireClient:
-    """A connection. Texts go in and come out."""
+    """A connection. Texts go in and come out. `given` are further parameters of the start."""
 
-    def __init__(self, address: Any, user: str = 'test', password: str = '') -> None:
+    def __init__(self, address: Any, user: str = 'test', password: str = '',
+                 **given: str) -> None:
         family = socket.AF_UNIX if isinstance(address, str) else socket.AF_INET
         self.socket = socket.socket(family)
         self.socket.settimeout(60)
         self.socket.connect(address)
         self.notices: 'list[dict[str, str]]' = []
         self.types: 'list[int]' = []
-        data = struct.pack('!i', 196608) + wire.text('user') + wire.text(user) + b'\0'
+        words = [word for pair in {'user': user, **given}.items() for word in pair]
+        data = struct.pack('!i', 196608) + b''.join(map(wire.text, words)) + b'\0'
         self.socket.sendall(struct.pack('!i', len(data) + 4) + data)
         self.stream = self.socket.makefile('rb')
         self.key = b''

@@ -1,26 +1,22 @@
 """The questions of the page, as values that JSON has."""
 import threading
-from typing import Any, Dict, Optional
+from typing import Any, Dict, Iterator, Optional
 
 from bitemporal_tools.sql.lexis import pieces
-from bitemporal_tools.sql.tree import At, Create, Delete, Insert, Sequenced, Update
+from bitemporal_tools.sql.tree import Sequenced
 
-from .. import dialect, engine, problems
+from .. import dialect, engine
 from ..problems import Problem
+from ..rights import Rights
 
-CHANGES = (Insert, Update, Delete, Create)
 MOST_VERSIONS = 20_000  # of a table whose days and moments the sliders go through
 FIRST, OPEN_END, LAST_MOMENT = '0001-01-01', '9999-12-31', '9999-12-31 23:59:59.999999'
-
-ENDED = ('40003', 'the program ended within a change', 'Whether the change is done is not known.',
-         'Look at the table. What was done before is there.')
 
 Answer = Dict[str, Any]
 
 
 def witness(held: str, absent: str) -> str:
-    """The witness of a row in words: a day on which it holds, and one before it on which it does
-    not."""
+    """The witness of a row in words: a day on which it holds, and an earlier one on which not."""
     return f'on {held} yes, ' + ('and on no day before' if absent == 'none'
                                  else f'on {absent} not yet')
 
@@ -29,7 +25,7 @@ class Asker:
     """Puts the questions of the page to the engine, one after the other."""
 
     def __init__(self, own: engine.Engine, may_write: bool, client: engine.Waiting) -> None:
-        self.engine, self.may_write, self.client = own, may_write, client
+        self.engine, self.rights, self.client = own, Rights(may_write), client
         self.lock = threading.Lock()
 
     def ask(self, text: str) -> Answer:
@@ -37,40 +33,26 @@ class Asker:
         with self.lock:
             results = []
             try:
-                for piece in pieces(dialect.lexed(text)):
-                    statement = dialect.Prepared(text, piece, self.engine.catalog)
-                    results.append(self.result(text, statement))
+                for result in self.results(text):
+                    results.append(result)
             except Problem as problem:
-                results.append(refused(problem))
-            except engine.Ended:
-                results.append(refused(Problem(*ENDED)))
-                self.engine.close()
-                self.engine.start()
+                results.append({'kind': 'refused', 'message': problem.message, 'detail':
+                                problem.detail, 'hint': problem.hint, 'at': problem.position})
             return {'results': results}
 
-    def result(self, text: str, statement: dialect.Prepared) -> Answer:
-        """The result of a statement."""
-        bound = statement.bound([])
-        data = dialect.part_of(bound)
-        if isinstance(bound.tree, At):
-            raise Problem('0A000', 'no AT: changes are recorded at the time of the machine')
-        if isinstance(bound.tree, CHANGES):
-            if not self.may_write:
-                raise Problem('42501', 'this page only reads', '',
-                              'Start it with --write to let it change the store.')
-            outcome = self.engine.change(data, bound.tree)
-        else:
-            outcome = self.engine.query(data, self.client)
-        if outcome.kind == 'refused':
-            raise problems.refusal(text, bound, self.engine.catalog, outcome.code, outcome.day)
+    def results(self, text: str) -> 'Iterator[Answer]':
+        """The results of the statements of a text."""
+        for piece in pieces(dialect.lexed(text)):
+            bound = dialect.Prepared(text, piece, self.engine.catalog).bound([])
+            yield self.result(bound.tree, self.engine.run(bound, self.rights, self.client, text))
+
+    def result(self, tree: object, outcome: engine.Outcome) -> Answer:
+        """The number of rows of a change. Of an answer its columns, its rows, and for a sequenced
+        query witnesses and audit."""
         if outcome.kind == 'done':
             return {'kind': 'done', 'what': outcome.what, 'count': outcome.number}
-        return self.answer(bound.tree, outcome)
-
-    def answer(self, tree: object, outcome: engine.Outcome) -> Answer:
-        """An answer: its columns, its rows, and for a sequenced query witnesses and audit."""
         columns = [column.name for column in dialect.columns_of(tree, self.engine.catalog) or []]
-        rows = list(engine.rows_of(outcome.rows))
+        rows = list(engine.rows_of(outcome))
         if not isinstance(tree, Sequenced):
             return {'kind': 'versions', 'columns': columns, 'rows': rows}
         return {'kind': 'answer', 'columns': columns[:-2], 'rows': [row[:-2] for row in rows],
@@ -78,8 +60,7 @@ class Asker:
 
     def rows(self, text: str) -> 'list[list[str]]':
         """The rows of a query of the page's own."""
-        [found] = [self.result(text, dialect.Prepared(text, piece, self.engine.catalog))
-                   for piece in pieces(dialect.lexed(text))]
+        [found] = self.results(text)
         rows: 'list[list[str]]' = found['rows']
         return rows
 
@@ -87,15 +68,14 @@ class Asker:
         """The tables of the store, with their columns and the clock."""
         with self.lock:
             catalog = self.engine.catalog
-            return {'clock': self.engine.clock(), 'write': self.may_write, 'tables': [
+            return {'clock': self.engine.clock(), 'write': self.rights.may_write, 'tables': [
                 {'name': table.name, 'period': table.period.name, 'key': list(table.key),
                  'columns': [{'name': column.name, 'kind': column.kind, 'number': column.number}
                              for column in table.columns]}
                 for table in catalog.tables.values()]}
 
     def range(self, name: str) -> Answer:
-        """The days on which something of a table changes, and the moments at which it was changed,
-        in order."""
+        """The days on which a table changes, and the moments at which it was changed, in order."""
         with self.lock:
             table = self.engine.catalog.tables[name]
             found = self.rows(f"SELECT * FROM {name} FOR SYSTEM_TIME FROM TIMESTAMP '{FIRST}"
@@ -110,8 +90,7 @@ class Asker:
             return {'days': sorted(days), 'moments': sorted(moments)}
 
     def state(self, name: str, moment: Optional[str], day: Optional[str]) -> Answer:
-        """The rows of a table as they were recorded at a moment, a day's alone if one is
-        given."""
+        """The rows of a table as they were recorded at a moment, of a day alone if one is given."""
         with self.lock:
             table = self.engine.catalog.tables[name]
             window = f" FOR SYSTEM_TIME AS OF TIMESTAMP '{moment}'" if moment else ''
@@ -125,12 +104,7 @@ class Asker:
         """The rows that a table had at one moment and not at another, and the other way round."""
         before = self.state(name, first, None)
         after = self.state(name, second, None)
+        had, has = ({tuple(row) for row in state['rows']} for state in (before, after))
         return {'columns': before['columns'],
-                'gone': [row for row in before['rows'] if row not in after['rows']],
-                'new': [row for row in after['rows'] if row not in before['rows']]}
-
-
-def refused(problem: Problem) -> Answer:
-    """A refusal as the page shows it, with the place that it marks."""
-    return {'kind': 'refused', 'message': problem.message, 'detail': problem.detail,
-            'hint': problem.hint, 'at': problem.position}
+                'gone': [row for row in before['rows'] if tuple(row) not in has],
+                'new': [row for row in after['rows'] if tuple(row) not in had]}

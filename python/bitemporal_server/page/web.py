@@ -1,30 +1,31 @@
 """The page over HTTP: three files, and what they ask, as JSON. The address has a token, as
-notebooks have; a request without it, from another host's page or by another name of this host is
-refused."""
+notebooks have; a question without it, and each request from another host's page or by another name
+of this host, is refused. No cookie has the token, since browsers send those to each port."""
 import hmac
 import http.server
 import json
 import pathlib
+import re
 import secrets
 import socket
+import sys
 import threading
-from typing import Any, Dict, Optional
+from typing import Any, Dict
 from urllib.parse import parse_qs, urlsplit
 
 from ..problems import Problem
-from .answers import Answer, Asker, refused
+from .answers import Answer, Asker
 
 FOLDER = pathlib.Path(__file__).resolve().parent / 'files'
 FILES = {'/': ('page.html', 'text/html'), '/page.css': ('page.css', 'text/css'),
          '/page.js': ('page.js', 'text/javascript')}
-MOST_BYTES = 1024 * 1024
+MOST_BYTES, LENGTH = 1024 * 1024, re.compile('[0-9]{1,7}')
 POLICY = ("default-src 'none'; script-src 'self'; style-src 'self'; connect-src 'self';"
           " form-action 'none'; base-uri 'none'; frame-ancestors 'none'")
 HEADERS = {'Content-Security-Policy': POLICY, 'X-Content-Type-Options': 'nosniff',
            'Referrer-Policy': 'no-referrer', 'Cache-Control': 'no-store',
            'Cross-Origin-Opener-Policy': 'same-origin', 'Cross-Origin-Resource-Policy':
            'same-origin'}
-COOKIE = 'bitemporal'
 
 
 class Visitor:
@@ -44,6 +45,11 @@ class Web(http.server.ThreadingHTTPServer):
         self.asker, self.token = asker, secrets.token_urlsafe(24)
         self.hosts = {f'{name}:{self.server_port}' for name in ('127.0.0.1', 'localhost')}
 
+    def handle_error(self, request: Any, client_address: Any) -> None:
+        """Says nothing of a browser that has left."""
+        if not isinstance(sys.exc_info()[1], OSError):
+            super().handle_error(request, client_address)
+
     @property
     def address(self) -> str:
         """The address of the page, with its token."""
@@ -59,21 +65,18 @@ class Web(http.server.ThreadingHTTPServer):
         if path == '/range':
             return self.asker.range(table)
         if path == '/state':
-            return self.asker.state(table, text_or_none(given.get('moment')),
-                                    text_or_none(given.get('day')))
+            return self.asker.state(table, *(given.get(name) and digits(given[name])
+                                             for name in ('moment', 'day')))
         if path == '/changes':
-            return self.asker.changes(table, str(given['first']), str(given['second']))
+            return self.asker.changes(table, digits(given['first']), digits(given['second']))
         raise KeyError(path)
 
 
-def text_or_none(value: object) -> Optional[str]:
-    """A text that is given, and names a day or a moment by digits alone."""
-    if value is None:
-        return None
-    text = str(value)
-    if not all(letter in '0123456789-:. ' for letter in text):
-        raise KeyError(text)
-    return text
+def digits(value: object) -> str:
+    """A text that names a day or a moment by digits alone."""
+    if not re.fullmatch('[0-9:. -]*', str(value)):
+        raise KeyError(value)
+    return str(value)
 
 
 class Handler(http.server.BaseHTTPRequestHandler):
@@ -85,11 +88,11 @@ class Handler(http.server.BaseHTTPRequestHandler):
     def log_message(self, format: str, *args: Any) -> None:  # pylint: disable=redefined-builtin
         """Writes nothing."""
 
-    def send(self, status: int, kind: str, data: bytes, **more: str) -> None:
+    def send(self, status: int, kind: str, data: bytes) -> None:
         """Sends a response."""
         self.send_response(status)
-        for name, value in {**HEADERS, **more}.items():
-            self.send_header(name.replace('_', '-'), value)
+        for name, value in HEADERS.items():
+            self.send_header(name, value)
         self.send_header('Content-Type', f'{kind}; charset=utf-8')
         self.send_header('Content-Length', str(len(data)))
         self.end_headers()
@@ -101,26 +104,15 @@ class Handler(http.server.BaseHTTPRequestHandler):
         self.close_connection = True
         self.send(status, 'text/plain', (why + '\n').encode())
 
-    def is_of_this_host(self) -> bool:
-        """Whether the request is to this host by its own name, and of no other host's page."""
+    def may_go_on(self, is_open: bool = False) -> bool:
+        """Whether the request is served: it is to this host by its own name, of no other host's
+        page, and has the token in its address, unless it is an open one. Else it is refused."""
         origin = self.headers.get('Origin')
-        return self.headers.get('Host') in self.server.hosts and (
-            origin is None or urlsplit(origin).netloc in self.server.hosts)
-
-    def has_token(self) -> bool:
-        """Whether the request has the token, in its address or in the cookie of the page."""
         given = parse_qs(urlsplit(self.path).query).get('token', [''])[0]
-        for part in self.headers.get('Cookie', '').split(';'):
-            name, _, value = part.strip().partition('=')
-            if name == f'{COOKIE}{self.server.server_port}':
-                given = given or value
-        return hmac.compare_digest(given.encode(), self.server.token.encode())
-
-    def may_go_on(self) -> bool:
-        """Whether the request is served; else it is refused here."""
-        if not self.is_of_this_host():
+        if self.headers.get('Host') not in self.server.hosts or \
+                origin is not None and urlsplit(origin).netloc not in self.server.hosts:
             self.refuse(403, 'the page is for this machine alone')
-        elif not self.has_token():
+        elif not is_open and not hmac.compare_digest(given.encode(), self.server.token.encode()):
             self.refuse(403, 'open the address that serve has written, with its token')
         else:
             return True
@@ -128,14 +120,13 @@ class Handler(http.server.BaseHTTPRequestHandler):
 
     def do_GET(self) -> None:  # pylint: disable=invalid-name
         """One of the files."""
-        if not self.may_go_on():
+        if not self.may_go_on(self.path in ('/page.css', '/page.js')):
             return
         name, kind = FILES.get(urlsplit(self.path).path, ('', ''))
-        if not name:
+        if name:
+            self.send(200, kind, (FOLDER / name).read_bytes())
+        else:
             self.refuse(404, 'there is no such file')
-            return
-        cookie = f'{COOKIE}{self.server.server_port}={self.server.token}; HttpOnly; SameSite=Strict'
-        self.send(200, kind, (FOLDER / name).read_bytes(), Set_Cookie=cookie)
 
     do_HEAD = do_GET  # pylint: disable=invalid-name
 
@@ -143,22 +134,23 @@ class Handler(http.server.BaseHTTPRequestHandler):
         """A question of the page."""
         if not self.may_go_on():
             return
-        try:
-            length = int(self.headers.get('Content-Length', ''))
-        except ValueError:
-            length = -1
-        if self.headers.get('Content-Type') != 'application/json' or not 0 <= length <= MOST_BYTES:
+        length = self.headers.get('Content-Length', '')
+        if self.headers.get('Content-Type') != 'application/json' or \
+                not LENGTH.fullmatch(length) or int(length) > MOST_BYTES:
             self.refuse(400, 'a question is JSON of at most a megabyte')
             return
         try:
-            given = json.loads(self.rfile.read(length))
+            given = json.loads(self.rfile.read(int(length)))
             found = self.server.answer(urlsplit(self.path).path, given)
         except Problem as problem:
-            found = {'results': [refused(problem)]}
+            self.refuse(503, problem.message)
         except (ValueError, KeyError, TypeError):
             self.refuse(400, 'there is no such question')
-            return
-        self.send(200, 'application/json', json.dumps(found).encode())
+        except Exception:
+            self.refuse(500, 'the page has a fault of its own')
+            raise
+        else:
+            self.send(200, 'application/json', json.dumps(found).encode())
 
 
 def served(asker: Asker, port: int) -> Web:

@@ -93,8 +93,8 @@ SELECT x.oid,x.*,p.pronamespace as func_schema_id,d.description FROM pg_catalog.
 --= none
 SELECT e.oid, e.extname, n.nspname as schema_name, e.extversion FROM pg_catalog.pg_extension e join pg_catalog.pg_namespace n on n.oid =e.extnamespace ORDER BY e.oid
 
--- A question of PostgreSQL's tables that sqlite does not understand: an empty answer, and a line in the log.
---? none
+-- A question of PostgreSQL's tables that sqlite does not understand: it is refused, with a line in the log.
+--? 0A000
 SELECT r.rulename, r.ev_type FROM pg_catalog.pg_rewrite r, LATERAL (SELECT ROW(1, 2) AS pair) AS p
 
 -- The rows of a table, as its grid shows them.

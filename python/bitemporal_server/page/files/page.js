@@ -17,7 +17,7 @@ function made(name, given, ...children) {
 }
 
 async function asked(path, question) {
-  const response = await fetch(path, {
+  const response = await fetch(path + location.search, {  // with the token
     method: 'POST',
     headers: {'Content-Type': 'application/json'},
     body: JSON.stringify(question),
@@ -147,7 +147,7 @@ function resultOf(result, text) {
 
 function failed(place, error) {
   place.replaceChildren(made('p', {class: 'differs', role: 'alert'},
-    `The server does not answer: ${error.message}`));
+    `There is no answer: ${error.message}`));
 }
 
 async function ask(event) {
