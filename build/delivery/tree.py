@@ -1,5 +1,5 @@
 """The installed files and their places: the program, its tools, pages of the manual,
-completions, documents and units of systemd.
+completions, documents and units of systemd with their user.
 
 All of it is in PREFIX/lib/bitemporal, but for what has a place of its own. There the launcher is,
 as in the repository, and next to it the program, by which it knows that it is installed, and a line
@@ -75,11 +75,13 @@ def lay(tree: Tree, kind: str, completions: str = 'share/zsh/site-functions',
     for page in sorted((ROOT / 'packaging/man').glob('*.1')):
         tree.copy(page, f'share/man/man1/{page.name}')
     for command in TOOLS:
-        tree.link(f'share/man/man1/{command}.1', 'share/man/man1/bitemporal-tools.1')
+        if not (ROOT / f'packaging/man/{command}.1').exists():
+            tree.link(f'share/man/man1/{command}.1', 'share/man/man1/bitemporal-tools.1')
     lay_completions(tree, completions)
     for unit in sorted((ROOT / 'packaging/systemd').iterdir()):
         text = unit.read_text(encoding='utf-8').replace('@bin@', f'{tree.prefix}/bin')
         tree.write(f'lib/systemd/system/{unit.name}', text)
+    tree.copy_folder(ROOT / 'packaging/sysusers', 'lib/sysusers.d')
     tree.write(LIST, ''.join(f'{name}\n' for name in sorted([*tree.laid, LIST])))
 
 
