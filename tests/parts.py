@@ -131,7 +131,13 @@ PARTS = [
     Part('python/tests/test_distribute.py', 6, needs=(POSTGRESQL,)),
     Part('python/tests/test_over_days.py', 50, needs=(DASK,)),
     # The server of PostgreSQL's protocol, its page, and the connection from Python.
+    Part('python/tests/test_engine.py', 3),
+    Part('python/tests/test_texts.py', 10),
+    Part('python/tests/test_attacks.py', 25, needs=(PSQL,)),
+    Part('python/tests/test_attacked_tools.py', 10),
+    Part('python/tests/test_rights.py', 12),
     Part('python/tests/test_server.py', 45, needs=(PSQL, OPENSSL)),
+    Part('python/tests/test_ends.py', 30),
     Part('python/tests/test_bi.py', 10, needs=(POSTGRESQL,)),
     Part('python/tests/test_clients.py', 15, needs=(CLIENTS,)),
     Part('python/tests/test_page.py', 10, needs=(CHROMIUM,)),
