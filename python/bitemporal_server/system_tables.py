@@ -106,6 +106,13 @@ class SystemTables:
             self.refuse(Problem('42704', f'there is no setting {name} here'))
         return settings.get(name.lower())
 
+    def may(self, *given: Any) -> int:
+        """Whether the client that asks has one of the privileges of tables that are given last."""
+        held = ['SELECT']
+        if self.runner.rights().may_write:
+            held += ['INSERT', 'UPDATE', 'DELETE']
+        return int(any(it.strip().upper() in held for it in str(given[-1]).split(',')))
+
     def make(self, catalog: Catalog) -> None:
         """Makes the tables anew."""
         self.database = sqlite3.connect(':memory:', check_same_thread=False, isolation_level=None)
@@ -119,6 +126,7 @@ class SystemTables:
             **dict.fromkeys(('current_user', 'session_user', 'pg_get_userbyid'),
                             lambda *_: self.user),
             'pg_backend_pid': lambda: self.runner.client.number,
+            **dict.fromkeys(('has_table_privilege', 'has_any_column_privilege'), self.may),
             **{it: lambda *_, it=it: self.refuse(Problem('0A000', f'no {it}', REFUSED[it]))
                for it in REFUSED}}
         for name, function in known.items():

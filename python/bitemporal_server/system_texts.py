@@ -66,8 +66,7 @@ ALWAYS: 'dict[str, Any]' = {
     'version': 'PostgreSQL 9.6.0 (bitemporal 0.1.0)', 'current_schemas': 'public',
     'pg_encoding_to_char': 'UTF8', 'getdatabaseencoding': 'UTF8', 'current_schema': 'public',
     **dict.fromkeys(('current_database', 'current_catalog'), 'store'), 'pg_is_in_recovery': 0,
-    **dict.fromkeys(('has_schema_privilege', 'has_table_privilege', 'has_any_column_privilege',
-                     'has_database_privilege', 'array_lower', *(
+    **dict.fromkeys(('has_schema_privilege', 'has_database_privilege', 'array_lower', *(
                          f'pg_{it}_is_visible' for it in ('table', 'type', 'function', 'collation',
                                                           'opclass', 'operator', 'opfamily'))), 1),
     **dict.fromkeys(('obj_description', 'col_description', 'shobj_description', 'to_regtype',

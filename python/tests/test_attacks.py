@@ -123,6 +123,9 @@ class Texts(Attacks):
             return done.stdout.decode()
 
         self.holds('DELETE', 'only read' in psql('DELETE FROM PAY'))
+        told = psql("SELECT has_table_privilege('PAY', 'SELECT'), has_table_privilege('PAY',"
+                    " 'INSERT, DELETE')")
+        self.equal('privileges', told, '1|0\n')
         copy = f'{store.top}/stolen.store'
         for text in ('DELETE FROM PAY', f'.backup {copy}'):
             self.holds(text, 'Syntax' in psql(ESCAPE.format(text)), psql(ESCAPE.format(text)))

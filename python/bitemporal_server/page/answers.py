@@ -47,8 +47,8 @@ class Asker:
             yield self.result(bound.tree, self.engine.run(bound, self.rights, self.client, text))
 
     def result(self, tree: object, outcome: engine.Outcome) -> Answer:
-        """The number of rows of a change. Of an answer its columns, its rows, and for a sequenced
-        query witnesses and audit."""
+        """The number of rows of a change; or the columns and rows of an answer, and for a sequenced
+        query its witnesses and audit."""
         if outcome.kind == 'done':
             return {'kind': 'done', 'what': outcome.what, 'count': outcome.number}
         columns = [column.name for column in dialect.columns_of(tree, self.engine.catalog) or []]
